@@ -1,0 +1,64 @@
+-- The least fixed point, from 1 up, of a function that never falls, and how a loop reaches it. Assumes nothing.
+use Prim.Native.Nat.{ℕ, _+_, _≤_, _<_}
+use mathlib.Core.Path.{_≡_, subst}
+use native.Mathlib.Omega.{arith}
+use lib.Dec.{eqb}
+use borrow.Author.Tests.{eq-eqb, ne-eqb, eqb-true, eqb-false}
+use Rattle.bounded.specs.Least.{leastFrom, least-low, least-at, least-before, least-found, least-none}
+
+-- the least r from 1 to cap that f gives back; and cap + 1 where there is none
+unfoldable pub leastFixed : (ℕ → ℕ) → ℕ → ℕ
+leastFixed f cap = leastFrom (λ r. eqb (f r) r) 1 cap
+
+pub fixed-low : (f : ℕ → ℕ) (cap : ℕ) → 1 ≤ leastFixed f cap
+unfolding leastFixed
+fixed-low f cap = least-low (λ r. eqb (f r) r) 1 cap
+
+pub fixed-at : (f : ℕ → ℕ) (cap : ℕ) → leastFixed f cap ≤ cap → f (leastFixed f cap) ≡ leastFixed f cap
+unfolding leastFixed
+fixed-at f cap h = eqb-true _ _ (least-at (λ r. eqb (f r) r) 1 cap (omega arith))
+
+pub fixed-before : (f : ℕ → ℕ) (cap q : ℕ) → 1 ≤ q → q < leastFixed f cap → f q ≡ q → ⊥
+unfolding leastFixed
+fixed-before f cap q l h = eqb-false _ _ (least-before (λ r. eqb (f r) r) 1 cap q l h)
+
+abbrev pub Mono : (ℕ → ℕ) → Type 0
+Mono f = (a b : ℕ) → a ≤ b → f a ≤ f b
+
+-- a loop's value r on the way: f does not lower it, and no fixed point is below it
+pub record Climbing (f : ℕ → ℕ) (cap r : ℕ) : Type 0 where
+  pub low : 1 ≤ r
+  pub high : r ≤ cap
+  pub up : r ≤ f r
+  pub under : (q : ℕ) → 1 ≤ q → f q ≡ q → r ≤ q
+
+pub climb-start : (f : ℕ → ℕ) (cap : ℕ) → 1 ≤ cap → 1 ≤ f 1 → Climbing f cap 1
+climb-start f cap h l = record { low = omega arith; high = h; up = l; under = λ q p e. p }
+
+-- a fixed point that r is at most, f r is at most
+below : (f : ℕ → ℕ) → Mono f → (r q : ℕ) → r ≤ q → f q ≡ q → f r ≤ q
+below f m r q l e = subst (λ (z : ℕ). f r ≤ z) e (m r q l)
+
+pub climb-next : (f : ℕ → ℕ) (cap r n : ℕ) → Mono f → Climbing f cap r → n ≡ f r → n ≤ cap → Climbing f cap n
+climb-next f cap r n m c e h = record {
+  low = omega (arith, c .low, c .up);
+  high = h;
+  up = let u : f r ≤ f n = m r n (omega (arith, c .up)) in omega arith;
+  under = λ q p x. let u : f r ≤ q = below f m r q (c .under q p x) x in omega arith;
+}
+
+pub climb-more : (f : ℕ → ℕ) (cap r n : ℕ) → Climbing f cap r → n ≡ f r → (n ≡ r → ⊥) → r < n
+climb-more f cap r n c e h = omega (arith, c .up)
+
+-- the two ways in which the loop ends
+pub climb-least : (f : ℕ → ℕ) (cap r n : ℕ) → Climbing f cap r → n ≡ f r → n ≡ r → r ≡ leastFixed f cap
+unfolding leastFixed
+climb-least f cap r n c e h =
+    least-found (λ r. eqb (f r) r) 1 cap r (c .low) (omega (arith, c .high)) (eq-eqb (f r) r (omega arith))
+    (λ j l k. ne-eqb (f j) j (λ x. omega (arith, c .under j l x)))
+
+pub climb-passed : (f : ℕ → ℕ) (cap r n : ℕ) → Mono f → Climbing f cap r → n ≡ f r → cap < n → 1 + cap ≡ leastFixed f cap
+unfolding leastFixed
+climb-passed f cap r n m c e h =
+    least-none (λ r. eqb (f r) r) 1 cap
+    (λ j l k. ne-eqb (f j) j (λ x. let u : f r ≤ j = below f m r j (c .under j l x) x in omega arith))

@@ -1,0 +1,33 @@
+-- A test's two outcomes, and a number that counts only where a test passes. Assumes nothing.
+use Prim.Native.Nat.{ℕ, _≤_}
+use mathlib.Core.Path.{_≡_, refl}
+use mathlib.Core.Bool.{Bool, true, false, _&&_, false≢true}
+use native.Mathlib.Omega.{arith}
+
+-- each outcome with its equation
+pub both : {P : Type 0} (b : Bool) → (b ≡ true → P) → (b ≡ false → P) → P
+both true f g = f refl
+both false f g = g refl
+
+-- both of two tests pass
+pub and-true : (a b : Bool) → (a && b) ≡ true → (a ≡ true) × (b ≡ true)
+and-true true b e = (refl, e)
+and-true false b e = absurd (false≢true e)
+
+-- x where the test passes, and 0 where it fails
+unfoldable pub gate : Bool → ℕ → ℕ
+gate true x = x
+gate false x = 0
+
+pub gate-on : (b : Bool) (x : ℕ) → b ≡ true → gate b x ≡ x
+unfolding gate
+gate-on b x e = rw e
+
+pub gate-off : (b : Bool) (x : ℕ) → b ≡ false → gate b x ≡ 0
+unfolding gate
+gate-off b x e = rw e
+
+pub gate-le : (b : Bool) (x : ℕ) → gate b x ≤ x
+unfolding gate
+gate-le true x = omega arith
+gate-le false x = omega arith

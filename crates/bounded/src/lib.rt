@@ -1,0 +1,1 @@
+// No code: sums, searches and quotients over an index, and their laws, stand in specs/.

@@ -1,0 +1,148 @@
+-- An arrival keeps what makes every deadline met. Assumes nothing.
+use Prim.Native.Nat.{ℕ, suc, _+_, _-_, _≤_, _<_}
+use mathlib.Core.Path.{_≡_, sym, ap, _∙_}
+use mathlib.Core.Logic.{dite}
+use mathlib.Core.Bool.{true, false, not}
+use native.Mathlib.Nat.{le-of-eq, le-trans, mul-le-mul-left}
+use native.Mathlib.Omega.{arith}
+use native.Mathlib.Decide.{decLe, ℕ-discrete}
+use lib.Dec.{eqb}
+use borrow.Author.Tests.{ne-eqb}
+use Rattle.bounded.specs.Sum.{sum-eq, sum-le-at}
+use Rattle.bounded.specs.Tests.{gate, gate-on, both}
+use Rattle.bounded.specs.Quotient.{ceilDiv, ceil-more}
+use Rattle.edf.specs.Jobs.{jobsBy, jobs-mono, jobs-none, jobs-first, jobs-one, jobs-ceil, jobs-room}
+use Rattle.edf.specs.Demand.{TaskSet, Lawful, rowRequest, interference}
+use Rattle.edf.specs.State.{State, soonest, pending, toCome, rowLoad, load, WellFormed, WellFormedJob, Slack, SlackOn, AllSlack, Elapsed, pending-in, pending-idle, pending-later, pending-same, soonest-le, on-le}
+use Rattle.edf.specs.Steps.{Arrive}
+
+module _ (τ : TaskSet) (ok : Lawful τ) (s : State) (formed : WellFormed τ s) where
+  -- a row of which a job may arrive has none that waits
+  pub ready-idle : (k : ℕ) → k < τ .rows → s .next k ≤ s .clock → s .waits k ≡ false
+  ready-idle k l h = both (s .waits k) (λ w. absurd (omega (arith, formed k l w, ok k l))) (λ w. w)
+
+  module _ (x j : ℕ) (some : 1 ≤ x) (row : j < τ .rows) where
+    -- the jobs of row j that have not arrived yet and are due in the next x ticks
+    abbrev coming : ℕ
+    coming = jobsBy (τ .D j) (τ .T j) (s .clock + x - soonest s j)
+
+    -- they are no more than arrive in a stretch of x
+    coming-all : coming ≤ ceilDiv x (τ .T j)
+    coming-all =
+        let r = ok j row in
+        le-trans (jobs-mono (τ .D j) (τ .T j) (s .clock + x - soonest s j) x (omega arith) (omega arith))
+        (jobs-ceil (τ .D j) (τ .T j) x (omega arith) (omega arith))
+
+    -- and fewer where a job of the row waits
+    coming-fewer : WellFormedJob τ s j → coming < ceilDiv x (τ .T j)
+    coming-fewer g =
+        let r = ok j row in
+        ceil-more x (τ .T j) coming (omega arith)
+        (dite (decLe (s .next j) (s .clock + x))
+        (λ p. omega (arith, jobs-room (τ .D j) (τ .T j) (s .clock + x - soonest s j) (omega arith) (omega arith)))
+        (λ p. rw (jobs-none (τ .D j) (τ .T j) (s .clock + x - soonest s j) (omega arith)) (omega arith)))
+
+    load-none : pending s (s .clock + x) j ≡ 0 → rowLoad τ s (s .clock + x) j ≤ rowRequest τ x j
+    unfolding toCome
+    load-none e = omega (arith, e, mul-le-mul-left {m = coming} (τ .C j) coming-all)
+
+    load-waiting : s .waits j ≡ true → s .due j ≤ s .clock + x → rowLoad τ s (s .clock + x) j ≤ rowRequest τ x j
+    unfolding toCome
+    load-waiting w p =
+        let g = formed j row w in
+        omega (arith, pending-in s (s .clock + x) j w p, mul-le-mul-left {m = suc coming} (τ .C j) (coming-fewer g))
+
+    -- by x from now a row asks for no more than may arrive of it in a stretch of x
+    pub row-upto : rowLoad τ s (s .clock + x) j ≤ rowRequest τ x j
+    row-upto =
+        both (s .waits j)
+        (λ w. dite (decLe (s .due j) (s .clock + x)) (λ p. load-waiting w p) (λ p. load-none (pending-later s (s .clock + x) j (omega arith))))
+        (λ w. load-none (pending-idle s (s .clock + x) j w))
+
+module _ (τ : TaskSet) (ok : Lawful τ) (s s′ : State) (formed : WellFormed τ s) (k b : ℕ) (st : Arrive τ k b s s′) where
+  -- no row's part of the load changes: where the new job is due by d, it waits now and is one less to come
+  arrive-row : (d : ℕ) → rowLoad τ s′ d k ≡ rowLoad τ s d k
+  unfolding toCome
+  arrive-row d =
+      let r = ok k (st .row) in
+      let e₁ : d - soonest s k ≡ d - s .clock = omega arith in
+      let e₂ : d - soonest s′ k ≡ d - s .clock - τ .T k = omega arith in
+      rw (e₁, e₂, pending-idle s d k (ready-idle τ ok s formed k (st .row) (st .ready)))
+      (dite (decLe (s .clock + τ .D k) d)
+      (λ p.
+      rw (pending-in s′ d k (st .waits) (omega arith), jobs-first (τ .D k) (τ .T k) (d - s .clock) (omega arith) (omega arith) (omega arith))
+      (omega arith))
+      (λ p.
+      rw (
+        pending-later s′ d k (omega arith),
+        jobs-none (τ .D k) (τ .T k) (d - s .clock) (omega arith),
+        jobs-none (τ .D k) (τ .T k) (d - s .clock - τ .T k) (omega arith),
+      )))
+
+  pub arrive-load : (d : ℕ) → load τ s′ d ≡ load τ s d
+  unfolding load toCome
+  arrive-load d =
+      sum-eq (rowLoad τ s′ d) (rowLoad τ s d) (τ .rows)
+      (λ i l. dite (ℕ-discrete i k) (λ e. rw e (arrive-row d))
+      (λ ne. let e = st .others i l ne in rw (pending-same s s′ d i e, e .next, st .clock)))
+
+  pub arrive-soonest : (i : ℕ) → i < τ .rows → soonest s i ≤ soonest s′ i
+  arrive-soonest = soonest-le τ ok s s′ (omega arith) k (st .row) (st .others) (omega arith)
+
+  pub arrive-formed : WellFormed τ s′
+  arrive-formed i l w =
+      dite (ℕ-discrete i k)
+      (λ e. let r = ok k (st .row) in rw e (record { some = omega arith; most = omega arith; deadline = omega arith; ahead = omega arith }))
+      (λ ne.
+      let e = st .others i l ne in
+      let g = formed i l (sym (e .waits) ∙ w) in
+      record { some = omega arith; most = omega arith; deadline = omega arith; ahead = omega arith })
+
+  -- by the new deadline there is at most the new job to do, and what others can ask for until then
+  pub arrive-bound : load τ s (s .clock + τ .D k) ≤ τ .C k + interference τ k (τ .D k)
+  unfolding load interference toCome
+  arrive-bound =
+      let r = ok k (st .row) in
+      let idle = ready-idle τ ok s formed k (st .row) (st .ready) in
+      let e : s .clock + τ .D k - soonest s k ≡ τ .D k = omega arith in
+      let one : rowLoad τ s (s .clock + τ .D k) k ≡ τ .C k =
+      rw (pending-idle s (s .clock + τ .D k) k idle, e, jobs-one (τ .D k) (τ .T k) (omega arith) (omega arith)) (omega arith) in
+      omega (
+        arith,
+        one,
+        sum-le-at (rowLoad τ s (s .clock + τ .D k)) (λ j. gate (not (eqb j k)) (rowRequest τ (τ .D k) j)) (τ .rows) k (st .row)
+            (λ j l ne.
+            omega (
+              arith,
+              row-upto τ ok s formed (τ .D k) j (omega arith) l,
+              gate-on (not (eqb j k)) (rowRequest τ (τ .D k) j) (ap not (ne-eqb j k ne)),
+            )),
+      )
+
+  -- a budget that the load leaves by the new deadline keeps the slack
+  pub arrive-slack-by : load τ s (s .clock + τ .D k) + b ≤ τ .D k → Slack τ s → Slack τ s′
+  arrive-slack-by h sl i l w =
+      dite (ℕ-discrete i k)
+      (λ e. rw (e, arrive-load (s′ .due k), st .due) (omega arith))
+      (λ ne.
+      let e = st .others i l ne in
+      rw (arrive-load (s′ .due i), e .due) (omega (arith, e, st .budgets i l ne, sl i l (sym (e .waits) ∙ w))))
+
+  -- so does a budget of at most V, in every state
+  pub arrive-slack : b + τ .C k + interference τ k (τ .D k) ≤ τ .D k → Slack τ s → Slack τ s′
+  arrive-slack h sl = arrive-slack-by (omega (arith, arrive-bound)) sl
+
+  -- and none, where there is time for the load by each time
+  pub arrive-slack-all : b ≡ 0 → AllSlack τ s → Slack τ s → Slack τ s′
+  arrive-slack-all z al sl = arrive-slack-by (omega (arith, al (s .clock + τ .D k) (omega arith))) sl
+
+  pub arrive-on : (W W′ : ℕ → Type 0) → ((d : ℕ) → W′ d → W d) → SlackOn τ s W → SlackOn τ s′ W′
+  arrive-on = on-le τ ok s s′ (st .clock) (λ d. le-of-eq (arrive-load d))
+
+  pub arrive-all : AllSlack τ s → AllSlack τ s′
+  arrive-all al d h = omega (arith, arrive-load d, al d (omega arith))
+
+  pub arrive-elapsed : Elapsed τ s → Elapsed τ s′
+  arrive-elapsed el i l w =
+      dite (ℕ-discrete i k) (λ e. rw e (omega arith))
+      (λ ne. let e = st .others i l ne in omega (arith, el i l (sym (e .waits) ∙ w)))

@@ -1,0 +1,11 @@
+pub mod Jobs
+pub mod Demand
+pub mod Arrivals
+pub mod Overload
+pub mod State
+pub mod Steps
+pub mod Arrive
+pub mod Advance
+pub mod Finish
+pub mod Mixed
+pub mod Safe

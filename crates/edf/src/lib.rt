@@ -1,0 +1,1 @@
+// No code: the scheduling theory stands in specs/.

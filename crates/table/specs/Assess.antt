@@ -1,0 +1,104 @@
+-- What `assess` promises, and the cases of its code. Assumes nothing.
+use Prim.Native.Nat.{ℕ, _%_, _≤_, _<_, min}
+use mathlib.Core.Path.{_≡_, refl, sym, ap, _∙_}
+use mathlib.Core.Bool.{Bool, true, false, not, _||_, cond, true≢false}
+use mathlib.Core.Logic.{dite}
+use mathlib.Core.List.{List}
+use native.Mathlib.Omega.{arith}
+use native.Mathlib.Decide.{decLe}
+use lib.Dec.{leb, ltb, eqb}
+use lib.IntN.{ℤ, pos}
+use lib.ListN.{length, replicate}
+use borrow.Author.Tests.{eq-eqb, ne-eqb, lt-ltb, le-ltb, le-leb, lt-leb, ltb-true, ltb-false, eqb-true, eqb-false}
+use Rattle.bounded.specs.Tests.{both}
+use Rattle.bounded.specs.Least.{leastFrom, least-none, least-before, least-high}
+use Rattle.edf.specs.Demand.{TaskSet, demand}
+use Rattle.table.specs.declared.Verdict.{Verdict}
+use Rattle.table.specs.declared.Verdict.the-variants.{Loose, Tight, Length, Row, Overload, Unsettled}
+use Rattle.table.specs.declared.Assessment.{Assessment}
+use Rattle.table.specs.declared.budgets.Budgets.{Budgets}
+use Rattle.table.specs.declared.busy.Busy.{Busy}
+use Rattle.table.specs.declared.overload.Found.{Found}
+use Rattle.table.specs.Rows.{horizon, tasksOf, firstBroken, Fit, fit-of}
+use Rattle.table.specs.Budgets.{loose, valuesOf, budgetsOf}
+use Rattle.table.specs.Busy.{busyLength, Settled}
+use Rattle.table.specs.Overload.{Outcome, over, none, Searched}
+use Rattle.table.specs.Verdict.{Answer, refusal, badLength, comparedTo, firstOverload, overloaded, settled, opinionOf, answerOf, Exceeded}
+
+-- document 01's number of each verdict, and its two values
+abbrev pub shown : Verdict → List ℤ → Answer
+shown (Loose n) v = record { number = 0; first = 1; second = n; budgets = v }
+shown (Tight n) v = record { number = 0; first = 2; second = n; budgets = v }
+shown (Length n) v = record { number = 1; first = n; second = 0; budgets = v }
+shown (Row i) v = record { number = 2; first = i; second = 0; budgets = v }
+shown (Overload t d) v = record { number = 3; first = t; second = d; budgets = v }
+shown Unsettled v = record { number = 4; first = horizon; second = 0; budgets = v }
+
+abbrev pub shownOf : Assessment → Answer
+shownOf a = shown (a .verdict) (a .budgets)
+
+-- the answer a on the slice l is the one defined, with the t that it names, and a t that it names is exceeded
+pub record Assessed (l : List ℕ) (a : Assessment) : Type 0 where
+  pub answer : shownOf a ≡ answerOf l (shownOf a .first)
+  pub witness : shownOf a .number ≡ 3 → Exceeded (tasksOf l) (shownOf a .first)
+
+-- the same, of rows that keep their rule
+pub record Judged (τ : TaskSet) (a : Assessment) : Type 0 where
+  pub answer : shownOf a ≡ opinionOf τ (shownOf a .first)
+  pub witness : shownOf a .number ≡ 3 → Exceeded τ (shownOf a .first)
+
+abbrev pub refusedOf : Verdict → Assessment
+refusedOf v = record { verdict = v; budgets = replicate 16 (pos 0) }
+
+-- ---- the length
+
+pub bad-none : (n : ℕ) → n ≡ 0 → true ≡ badLength n
+unfolding badLength
+bad-none n h = simp (eq-eqb n 0 h)
+
+pub bad-long : (n : ℕ) → (n ≡ 0 → ⊥) → 48 < n → true ≡ badLength n
+unfolding badLength
+bad-long n h l = simp (ne-eqb n 0 h, lt-ltb 48 n l)
+
+pub bad-rest : (n : ℕ) → (n ≡ 0 → ⊥) → n ≤ 48 → not (eqb (n % 3) 0) ≡ badLength n
+unfolding badLength
+bad-rest n h l = simp (ne-eqb n 0 h, le-ltb 48 n l)
+
+pub ruleset length-cases = (bad-none, bad-long, bad-rest)
+
+good-length : (n : ℕ) → badLength n ≡ false → (1 ≤ n) × (n ≤ 48) × (n % 3 ≡ 0)
+unfolding badLength
+good-length n e =
+    both (eqb n 0) (λ p. clash (bad-none n (eqb-true n 0 p)))
+    (λ p. both (ltb 48 n) (λ q. clash (bad-long n (eqb-false n 0 p) (ltb-true 48 n q)))
+    (λ q. both (eqb (n % 3) 0) (λ r. (omega (arith, eqb-false n 0 p), ltb-false 48 n q, eqb-true (n % 3) 0 r))
+    (λ r. clash (ap not (sym r) ∙ bad-rest n (eqb-false n 0 p) (ltb-false 48 n q)))))
+  where
+    clash : true ≡ badLength n → (1 ≤ n) × (n ≤ 48) × (n % 3 ≡ 0)
+    clash t = absurd (true≢false (t ∙ e))
+
+pub length-fit : (l : List ℕ) → badLength (length l) ≡ false → (1 ≤ tasksOf l .rows) × (tasksOf l .rows ≤ 16)
+unfolding tasksOf
+length-fit l e = let g = good-length (length l) e in (omega arith, omega arith)
+
+-- ---- the compared range
+
+-- where none of the range is exceeded, the first overload lies past it
+pub overloaded-none : (τ : TaskSet) → ((x : ℕ) → 1 ≤ x → x ≤ comparedTo τ → demand τ x ≤ x) → overloaded τ ≡ false
+unfolding overloaded firstOverload
+overloaded-none τ h =
+    lt-leb (leastFrom (λ t. ltb t (demand τ t)) 1 (comparedTo τ)) (comparedTo τ)
+    (omega (arith, least-none (λ t. ltb t (demand τ t)) 1 (comparedTo τ) (λ x l k. le-ltb x (demand τ x) (h x l (omega arith)))))
+
+pub overloaded-some : (τ : TaskSet) (t : ℕ) → Exceeded τ t → overloaded τ ≡ true
+unfolding overloaded firstOverload
+overloaded-some τ t w =
+    dite (decLe (leastFrom (λ t. ltb t (demand τ t)) 1 (comparedTo τ)) (comparedTo τ))
+    (λ l. le-leb (leastFrom (λ t. ltb t (demand τ t)) 1 (comparedTo τ)) (comparedTo τ) l)
+    (λ l. absurd
+    (omega (
+      arith,
+      w .over,
+      ltb-false t (demand τ t)
+          (least-before (λ t. ltb t (demand τ t)) 1 (comparedTo τ) t (w .low) (omega (arith, w .high))),
+    )))

@@ -1,0 +1,9 @@
+pub mod Rows
+pub mod Bound
+pub mod Request
+pub mod Demand
+pub mod Budgets
+pub mod Busy
+pub mod Overload
+pub mod Verdict
+pub mod Assess

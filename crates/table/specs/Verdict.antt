@@ -1,0 +1,66 @@
+-- The verdict on a table, in document 01's numbers (docs/SPECIFICATION.md §3). Assumes nothing.
+use Prim.Native.Nat.{ℕ, _%_, _≤_, _<_, min}
+use mathlib.Core.Path.{_≡_}
+use mathlib.Core.Bool.{Bool, not, _||_, cond}
+use mathlib.Core.List.{List}
+use lib.Dec.{leb, ltb, eqb}
+use lib.IntN.{ℤ, pos}
+use lib.ListN.{length, replicate}
+use Rattle.bounded.specs.Least.{leastFrom}
+use Rattle.edf.specs.Demand.{TaskSet, demand}
+use Rattle.table.specs.Rows.{horizon, tasksOf, firstBroken}
+use Rattle.table.specs.Budgets.{loose, valuesOf}
+use Rattle.table.specs.Busy.{busyLength}
+
+-- an answer on a table: its number, 0 where the table is admitted; two values; and V of each row
+pub record Answer : Type 0 where
+  pub number : ℕ
+  pub first : ℕ
+  pub second : ℕ
+  pub budgets : List ℤ
+
+-- a refusal has no budgets
+abbrev pub refusal : ℕ → ℕ → ℕ → Answer
+refusal n a b = record { number = n; first = a; second = b; budgets = replicate 16 (pos 0) }
+
+-- an admitted table's values are its kind, 1 loose and 2 tight, and its number of rows
+abbrev pub admitted : ℕ → TaskSet → Answer
+admitted kind τ = record { number = 0; first = kind; second = τ .rows; budgets = valuesOf τ }
+
+-- length 0, above 48 or no multiple of 3
+unfoldable pub badLength : ℕ → Bool
+badLength n = eqb n 0 || ltb 48 n || not (eqb (n % 3) 0)
+
+-- the demand is compared for t from 1 to the busy length, or to 1,000,000 if the busy length is greater or there is none
+unfoldable pub comparedTo : TaskSet → ℕ
+comparedTo τ = min (busyLength τ) horizon
+
+-- the first t of the compared range whose demand exceeds it; one past the range where there is none
+unfoldable pub firstOverload : TaskSet → ℕ
+firstOverload τ = leastFrom (λ t. ltb t (demand τ t)) 1 (comparedTo τ)
+
+-- the demand exceeds t somewhere in the compared range
+unfoldable pub overloaded : TaskSet → Bool
+overloaded τ = leb (firstOverload τ) (comparedTo τ)
+
+-- there is a busy length up to 1,000,000
+unfoldable pub settled : TaskSet → Bool
+settled τ = leb (busyLength τ) horizon
+
+-- the verdict on 1 to 16 rows that keep their rule; t is what a refusal 3 names
+unfoldable pub opinionOf : TaskSet → ℕ → Answer
+opinionOf τ t =
+    cond (loose τ) (admitted 1 τ)
+    (cond (overloaded τ) (refusal 3 t (demand τ t)) (cond (settled τ) (admitted 2 τ) (refusal 4 horizon 0)))
+
+-- the verdict on any slice of numbers, the lower number first; t is what a refusal 3 names
+unfoldable pub answerOf : List ℕ → ℕ → Answer
+answerOf l t =
+    cond (badLength (length l)) (refusal 1 (length l) 0)
+    (cond (ltb (firstBroken (tasksOf l)) (tasksOf l .rows)) (refusal 2 (firstBroken (tasksOf l)) 0) (opinionOf (tasksOf l) t))
+
+-- what is asked of the t that a refusal 3 names: it lies in the compared range, and its demand is above it
+pub record Exceeded (τ : TaskSet) (t : ℕ) : Type 0 where
+  pub low : 1 ≤ t
+  pub high : t ≤ comparedTo τ
+  pub over : t < demand τ t

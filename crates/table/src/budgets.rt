@@ -1,0 +1,97 @@
+// V of each row, the inversion budget: how long later jobs may run before a waiting one (docs/SPECIFICATION.md §2.2).
+ghost use mathlib.Core.Path.{_≡_};
+ghost use Prim.Native.Nat.{_+_, _<_, _≤_, _^_};
+ghost use Rattle.bounded.specs.Signed.{difference, negative};
+ghost use Rattle.edf.specs.Demand.{interference};
+ghost use Rattle.table.specs.Rows.{tasksOf, Fit};
+ghost use Rattle.table.specs.Bound.{Within};
+ghost use Rattle.table.specs.Budgets.{chargeOf, budgetOf, putOf, budgetsOf};
+use super::request::row_request;
+use super::rows::count;
+use super::rows::fit_row;
+
+// The rows' V, 0 past the last row, and whether none of them is negative.
+pub struct Budgets {
+    pub values: [i64; 16],
+    pub loose: bool,
+}
+
+// What row j can take of row i in a stretch x: nothing where it is row i itself.
+fn charge(words: &[u32], i: usize, j: usize, x: u64) -> u64
+    requires { ⌜ Fit (tasksOf (now words)) × (j < tasksOf (now words) .rows) × (x ≤ 1000000) ⌝ }
+    ensures { λ r. ⌜ Within 1000000000000 (chargeOf (tasksOf (now (words .entry))) i x j) r ⌝ }
+{
+    if j == i {
+        return 0;
+    }
+    row_request(words, j, x)
+}
+
+// The sum over every other row j of C of j times (x divided by T of j, rounded up).
+fn interfering(words: &[u32], i: usize, x: u64) -> u64
+    requires { ⌜ Fit (tasksOf (now words)) × (x ≤ 1000000) ⌝ }
+    ensures { λ r. ⌜ Within 16000000000000 (interference (tasksOf (now (words .entry))) i x) r ⌝ }
+{
+    let n = count(words);
+    let mut sum: u64 = 0;
+    let mut j: usize = 0;
+    while j < n {
+        sum = sum + charge(words, i, j, x);
+        j = j + 1;
+    }
+    sum
+}
+
+// a − b − c, signed.
+fn minus(a: u64, b: u64, c: u64) -> i64
+    requires { ⌜ (a < 2 ^ 61) × (b < 2 ^ 61) × (c < 2 ^ 61) ⌝ }
+    ensures { λ r. ⌜ r ≡ difference a b c ⌝ }
+{
+    (a as i64) - (b as i64) - (c as i64)
+}
+
+fn below_zero(v: i64) -> bool
+    ensures { λ r. ⌜ r ≡ negative v ⌝ }
+{
+    v < 0
+}
+
+// V of row i: D, less C, less what the others can take until the deadline.
+fn budget(words: &[u32], i: usize) -> i64
+    requires { ⌜ Fit (tasksOf (now words)) × (i < tasksOf (now words) .rows) ⌝ }
+    ensures { λ r. ⌜ r ≡ budgetOf (tasksOf (now (words .entry))) i ⌝ }
+{
+    let k = fit_row(words, i);
+    let sum = interfering(words, i, k.deadline);
+    minus(k.deadline, k.run, sum)
+}
+
+fn put(b: Budgets, i: usize, v: i64) -> Budgets
+    requires { ⌜ i < 16 ⌝ }
+    ensures { λ r. ⌜ r ≡ putOf b i v ⌝ }
+{
+    let mut next = b;
+    next.values[i] = v;
+    if below_zero(v) {
+        next.loose = false;
+    }
+    next
+}
+
+pub fn all_budgets(words: &[u32]) -> Budgets
+    requires { ⌜ Fit (tasksOf (now words)) ⌝ }
+    ensures { λ r. ⌜ r ≡ budgetsOf (tasksOf (now (words .entry))) ⌝ }
+{
+    let n = count(words);
+    let mut b = Budgets {
+        values: [0i64; 16],
+        loose: true,
+    };
+    let mut i: usize = 0;
+    while i < n {
+        let v = budget(words, i);
+        b = put(b, i, v);
+        i = i + 1;
+    }
+    b
+}

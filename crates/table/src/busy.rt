@@ -1,0 +1,33 @@
+// The busy length (the synchronous busy period; docs/SPECIFICATION.md §2.4).
+ghost use mathlib.Core.Path.{_≡_};
+ghost use Prim.Native.Nat.{_<_, _≤_};
+ghost use Rattle.table.specs.Rows.{tasksOf, Fit};
+ghost use Rattle.table.specs.Busy.{Settled};
+use super::request::requested;
+
+// The length, 1,000,001 where there is none up to 1,000,000, and how many sums over the rows it took to find.
+pub struct Busy {
+    pub length: u64,
+    pub sums: u64,
+}
+
+// The least r ≥ 1 that equals the sum over all rows of C times (r divided by T, rounded up).
+pub fn busy_length(words: &[u32]) -> Busy
+    requires { ⌜ Fit (tasksOf (now words)) ⌝ }
+    ensures { λ r. ⌜ Settled (tasksOf (now (words .entry))) r ⌝ }
+{
+    let mut r: u64 = 1;
+    let mut sums: u64 = 0;
+    let length = loop {
+        let next = requested(words, r);
+        sums = sums + 1;
+        if next == r {
+            break r;
+        }
+        if 1000000 < next {
+            break 1000001;
+        }
+        r = next;
+    };
+    Busy { length, sums }
+}

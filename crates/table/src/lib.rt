@@ -1,0 +1,96 @@
+// Task tables: a lent slice of numbers, three to a row (docs/SPECIFICATION.md §2), and the verdict on it (§3).
+ghost use mathlib.Core.Path.{_≡_};
+ghost use Prim.Native.Nat.{min};
+ghost use Rattle.table.specs.Rows.{tasksOf, Fit};
+ghost use Rattle.table.specs.Verdict.{badLength};
+ghost use Rattle.table.specs.Assess.{Judged, Assessed, refusedOf};
+
+pub mod rows;
+pub mod request;
+pub mod budgets;
+pub mod demand;
+pub mod busy;
+pub mod overload;
+
+// The two kinds of an admitted table, and the four refusals (docs/SPECIFICATION.md §3; `shownOf` gives their numbers).
+pub enum Verdict {
+    Loose { rows: usize },
+    Tight { rows: usize },
+    // The slice's length is none that a table has.
+    Length(usize),
+    // The first row that breaks its rule.
+    Row(usize),
+    // A tick of the compared range, and the demand there, which exceeds it.
+    Overload { at: u64, demand: u64 },
+    // No busy length up to 1,000,000.
+    Unsettled,
+}
+
+// The verdict, and V of each row: 0 past the last row, and in all places where the table is refused.
+pub struct Assessment {
+    pub verdict: Verdict,
+    pub budgets: [i64; 16],
+}
+
+fn refused(verdict: Verdict) -> Assessment
+    ensures { λ r. ⌜ r ≡ refusedOf verdict ⌝ }
+{
+    Assessment { verdict, budgets: [0i64; 16] }
+}
+
+// Whether no table is n numbers long: 0, above 48, or no multiple of 3.
+fn ill_sized(n: usize) -> bool
+    ensures { λ r. ⌜ r ≡ badLength n ⌝ }
+{
+    if n == 0 {
+        return true;
+    }
+    if 48 < n {
+        return true;
+    }
+    n % 3 != 0
+}
+
+// The end of the compared range: the busy length, or 1,000,000 if that is less.
+pub fn compared(busy: u64) -> u64
+    ensures { λ r. ⌜ r ≡ min busy 1000000 ⌝ }
+{
+    if busy < 1000000 { busy } else { 1000000 }
+}
+
+// The verdict on rows that keep their rule.
+fn judge(words: &[u32]) -> Assessment
+    requires { ⌜ Fit (tasksOf (now words)) ⌝ }
+    ensures { λ r. ⌜ Judged (tasksOf (now (words .entry))) r ⌝ }
+{
+    let rows = rows::count(words);
+    let b = budgets::all_budgets(words);
+    let values = b.values;
+    if b.loose {
+        return Assessment { verdict: Verdict::Loose { rows }, budgets: values };
+    }
+    let busy = busy::busy_length(words);
+    let found = overload::search(words, compared(busy.length));
+    if found.at != 0 {
+        return refused(Verdict::Overload { at: found.at, demand: found.demand });
+    }
+    if 1000000 < busy.length {
+        return refused(Verdict::Unsettled);
+    }
+    Assessment { verdict: Verdict::Tight { rows }, budgets: values }
+}
+
+// The verdict on any slice.
+pub fn assess(words: &[u32]) -> Assessment
+    ensures { λ r. ⌜ Assessed (now (words .entry)) r ⌝ }
+{
+    let n = words.len();
+    if ill_sized(n) {
+        return refused(Verdict::Length(n));
+    }
+    let i = rows::first_broken(words);
+    if i < rows::count(words) {
+        return refused(Verdict::Row(i));
+    }
+    judge(words)
+}

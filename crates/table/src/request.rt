@@ -1,0 +1,40 @@
+// What arrives in a stretch of time, of one row and of all (the request bound function; docs/SPECIFICATION.md §2.4).
+ghost use mathlib.Core.Path.{_≡_};
+ghost use Prim.Native.Nat.{_<_, _≤_};
+ghost use Rattle.bounded.specs.Quotient.{ceilDiv};
+ghost use Rattle.edf.specs.Demand.{rowRequest, request};
+ghost use Rattle.table.specs.Rows.{tasksOf, Fit};
+ghost use Rattle.table.specs.Bound.{Within};
+use super::rows::count;
+use super::rows::fit_row;
+
+// a / b, rounded up.
+fn ceiling(a: u64, b: u64) -> u64
+    requires { ⌜ (a ≤ 1000000) × (1 ≤ b) × (b ≤ 1000000) ⌝ }
+    ensures { λ r. ⌜ r ≡ ceilDiv a b ⌝ }
+{
+    (a + (b - 1)) / b
+}
+
+pub fn row_request(words: &[u32], i: usize, x: u64) -> u64
+    requires { ⌜ Fit (tasksOf (now words)) × (i < tasksOf (now words) .rows) × (x ≤ 1000000) ⌝ }
+    ensures { λ r. ⌜ Within 1000000000000 (rowRequest (tasksOf (now (words .entry))) x i) r ⌝ }
+{
+    let k = fit_row(words, i);
+    k.run * ceiling(x, k.period)
+}
+
+// The sum over all rows of C times (x divided by T, rounded up).
+pub fn requested(words: &[u32], x: u64) -> u64
+    requires { ⌜ Fit (tasksOf (now words)) × (x ≤ 1000000) ⌝ }
+    ensures { λ r. ⌜ Within 16000000000000 (request (tasksOf (now (words .entry))) x) r ⌝ }
+{
+    let n = count(words);
+    let mut sum: u64 = 0;
+    let mut i: usize = 0;
+    while i < n {
+        sum = sum + row_request(words, i, x);
+        i = i + 1;
+    }
+    sum
+}
