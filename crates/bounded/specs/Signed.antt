@@ -1,14 +1,14 @@
 -- The difference a - b - c of three numbers, over the integers and as an i64. Assumes nothing.
 use Prim.Native.Nat.{ℕ, zero, suc, _+_, _-_, _<_, _≤_, _^_}
-use mathlib.Core.Bool.{Bool, true, false}
+use mathlib.Core.Bool.{Bool, true, false, true≢false}
 use mathlib.Core.Path.{_≡_, refl, sym, ap, _∙_}
 use native.Mathlib.Omega.{arith}
-use lib.IntN.{ℤ, pos, negsuc, subℕ, _+ℤ_, _-ℤ_, negℤ, +ℤ-assoc, negℤ-+ℤ}
-use lib.Signed.{mag, ltZ}
-use lib.Dec.{ltb}
-use borrow.Author.Tests.{lt-ltb, le-ltb}
+use lib.IntN.{ℤ, pos, negsuc, subℕ, _+ℤ_, _-ℤ_, negℤ, natAbs, +ℤ-assoc, negℤ-+ℤ}
+use lib.Signed.{ltZ, nonNeg}
+use lib.Dec.{T, ltb}
+use borrow.Author.Tests.{le-ltb, ltb-true}
 use mir.Syntax.{w64}
-use mir.Val.{SFits, toZ, ofZ}
+use mir.Val.{Fits, SFits, toZ, ofZ}
 use mir.ValLaws.{toZ-pos}
 use mir.Facts.{toZ-ofZ}
 use Rattle.bounded.specs.Tests.{both}
@@ -63,3 +63,45 @@ module _ (a b c : ℕ) (ha : a < 2 ^ 61) (hb : b < 2 ^ 61) (hc : c < 2 ^ 61) whe
 
   pub difference-back : toZ w64 (ofZ w64 (toZ w64 (ofZ w64 (toZ w64 a -ℤ toZ w64 b)) -ℤ toZ w64 c)) ≡ difference a b c
   difference-back = toZ-ofZ second-fits ∙ second-is
+
+-- ---- the magnitude of a negative v, by way of -1 - v, which always fits
+
+-- what the machine reads back of a number's bits
+abbrev back : ℤ → ℤ
+back z = toZ w64 (ofZ w64 z)
+
+module _ (v : ℤ) (f : SFits w64 v) (neg : ltZ (back v) (pos 0) ≡ true) where
+  -- v is -(n + 1), and -1 - v is n
+  below : (n : ℕ) × (v ≡ negsuc n) × (n < 2 ^ 63)
+  below = by v f (ap (λ (z : ℤ). ltZ z (pos 0)) (sym (toZ-ofZ f)) ∙ neg)
+    where
+      by : (z : ℤ) → SFits w64 z → ltZ z (pos 0) ≡ true → (n : ℕ) × (z ≡ negsuc n) × (n < 2 ^ 63)
+      by (pos n) g e = absurd (omega (arith, ltb-true n 0 e))
+      by (negsuc n) g e = (n, refl, g .sfits)
+
+  flip-is : negsuc 0 -ℤ back v ≡ pos (below .0)
+  flip-is =
+      ap (λ (z : ℤ). negsuc 0 -ℤ z) (toZ-ofZ f ∙ below .1)
+      ∙ simp (le-ltb (suc (below .0)) 1 (omega arith)) (let e : suc (below .0) - 1 ≡ below .0 = omega arith in ap pos e)
+
+  pub flip-fits : SFits w64 (negsuc 0 -ℤ back v)
+  flip-fits = rw flip-is (record { sfits = below .2 })
+
+  flip-back : back (negsuc 0 -ℤ back v) ≡ pos (below .0)
+  flip-back = toZ-ofZ flip-fits ∙ flip-is
+
+  pub flip-cast : T (nonNeg (back (negsuc 0 -ℤ back v))) × Fits w64 (natAbs (back (negsuc 0 -ℤ back v)))
+  flip-cast = rw flip-back (tt, record { fits = omega (arith, below .2) })
+
+  pub flip-next : Fits w64 (natAbs (back (negsuc 0 -ℤ back v)) + 1)
+  flip-next = rw flip-back (record { fits = omega (arith, below .2) })
+
+  pub flip-magnitude : natAbs (back (negsuc 0 -ℤ back v)) + 1 ≡ natAbs v
+  flip-magnitude = rw flip-back (omega (arith, ap natAbs (below .1)))
+
+pub keep-cast : (v : ℤ) → SFits w64 v → ltZ (back v) (pos 0) ≡ false → T (nonNeg (back v)) × Fits w64 (natAbs (back v))
+keep-cast v f e = rw (toZ-ofZ f) (by v f (ap (λ (z : ℤ). ltZ z (pos 0)) (sym (toZ-ofZ f)) ∙ e))
+  where
+    by : (z : ℤ) → SFits w64 z → ltZ z (pos 0) ≡ false → T (nonNeg z) × Fits w64 (natAbs z)
+    by (pos n) g h = (tt, record { fits = omega (arith, g .sfits) })
+    by (negsuc n) g h = absurd (true≢false h)

@@ -124,11 +124,12 @@ module _ (τ : TaskSet) (ok : Lawful τ) where
 
   -- The busy length is enough (§3.1): where all that arrives in a stretch L can be done in it, demand need be compared
   -- for t up to L only.
-  pub busy-suffices : (L : ℕ) → 1 ≤ L → request τ L ≤ L → ((t : ℕ) → t ≤ L → demand τ t ≤ t) → Feasible τ
+  pub busy-suffices : (L : ℕ) → 1 ≤ L → request τ L ≤ L → ((t : ℕ) → 1 ≤ t → t ≤ L → demand τ t ≤ t) → Feasible τ
   busy-suffices L one closed near =
       strong (λ t. demand τ t ≤ t)
-      (λ t ih. dite (decLe t L) (λ l. near t l)
-      (λ l. omega (arith, demand-split L t (omega arith), ih (t - L) (omega arith))))
+      (λ t ih. dite (ℕ-discrete t 0) (λ z. rw (z, demand-none 0 (λ i l. omega (arith, ok i l))) (omega arith))
+      (λ ne. dite (decLe t L) (λ l. near t (omega arith) l)
+      (λ l. omega (arith, demand-split L t (omega arith), ih (t - L) (omega arith)))))
 
   -- A search for an overload that goes down from t may go on below the demand at t, since there is none between (the
   -- QPA test of Zhang and Burns).

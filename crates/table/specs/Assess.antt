@@ -3,7 +3,7 @@ use Prim.Native.Nat.{ℕ, _%_, _≤_, _<_, min}
 use mathlib.Core.Path.{_≡_, refl, sym, ap, _∙_}
 use mathlib.Core.Bool.{Bool, true, false, not, _||_, cond, true≢false}
 use mathlib.Core.Logic.{dite}
-use mathlib.Core.List.{List}
+use mathlib.Core.List.{List, []}
 use native.Mathlib.Omega.{arith}
 use native.Mathlib.Decide.{decLe}
 use lib.Dec.{leb, ltb, eqb}
@@ -15,6 +15,7 @@ use Rattle.bounded.specs.Least.{leastFrom, least-none, least-before, least-high
 use Rattle.edf.specs.Demand.{TaskSet, demand}
 use Rattle.table.specs.declared.Verdict.{Verdict}
 use Rattle.table.specs.declared.Verdict.the-variants.{Loose, Tight, Length, Row, Overload, Unsettled}
+use Rattle.table.specs.declared.Numbers.{Numbers}
 use Rattle.table.specs.declared.Assessment.{Assessment}
 use Rattle.table.specs.declared.budgets.Budgets.{Budgets}
 use Rattle.table.specs.declared.busy.Busy.{Busy}
@@ -33,6 +34,12 @@ shown (Length n) v = record { number = 1; first = n; second = 0; budgets = v }
 shown (Row i) v = record { number = 2; first = i; second = 0; budgets = v }
 shown (Overload t d) v = record { number = 3; first = t; second = d; budgets = v }
 shown Unsettled v = record { number = 4; first = horizon; second = 0; budgets = v }
+
+-- n has a verdict's number and values
+pub record Shows (v : Verdict) (n : Numbers) : Type 0 where
+  pub number : n .number ≡ shown v [] .number
+  pub first : n .first ≡ shown v [] .first
+  pub second : n .second ≡ shown v [] .second
 
 abbrev pub shownOf : Assessment → Answer
 shownOf a = shown (a .verdict) (a .budgets)
@@ -102,3 +109,95 @@ overloaded-some τ t w =
       ltb-false t (demand τ t)
           (least-before (λ t. ltb t (demand τ t)) 1 (comparedTo τ) t (w .low) (omega (arith, w .high))),
     )))
+
+-- ---- the code's ways out, for rows that keep their rule
+
+module _ (τ : TaskSet) (b : Budgets) (e : b ≡ budgetsOf τ) where
+  is-loose : b .loose ≡ loose τ
+  unfolding budgetsOf
+  is-loose = ap (λ z. z .loose) e
+
+  is-values : b .values ≡ valuesOf τ
+  unfolding budgetsOf
+  is-values = ap (λ z. z .values) e
+
+  pub judge-loose : (n : ℕ) → n ≡ τ .rows → b .loose ≡ true → Judged τ (record { verdict = Loose n; budgets = b .values })
+  unfolding opinionOf
+  judge-loose n h t =
+      record { answer = simp (sym is-loose ∙ t, h, is-values, opinionOf); witness = λ z. absurd (omega arith) }
+
+  module _ (y : Busy) (s : Settled τ y) (end : ℕ) (m : end ≡ min (y .length) 1000000) (f : Found) (r : Searched τ end f) (no : b .loose ≡ false) where
+    is-compared : end ≡ comparedTo τ
+    unfolding comparedTo
+    is-compared = m ∙ ap (λ (z : ℕ). min z 1000000) (s .is)
+
+    found-over : (f .at ≡ 0 → ⊥) → (f .demand ≡ demand τ (f .at)) × Exceeded τ (f .at)
+    found-over ne = by (r .outcome) ne
+      where
+        by : {t h : ℕ} → Outcome τ end t h → (t ≡ 0 → ⊥) → (h ≡ demand τ t) × Exceeded τ t
+        by (over l k d o) ne = (d, record { low = l; high = omega (arith, is-compared); over = omega arith })
+        by (none g) ne = absurd (ne refl)
+
+    found-none : f .at ≡ 0 → overloaded τ ≡ false
+    found-none z = overloaded-none τ (by (r .outcome) z)
+      where
+        by : {t h : ℕ} → Outcome τ end t h → t ≡ 0 → (x : ℕ) → 1 ≤ x → x ≤ comparedTo τ → demand τ x ≤ x
+        by (over l k d o) z x p q = absurd (omega arith)
+        by (none g) z x p q = g x p (omega (arith, is-compared))
+
+    pub judge-overload : (a : Assessment) → (f .at ≡ 0 → ⊥) → a ≡ refusedOf (Overload (f .at) (f .demand)) → Judged τ a
+    unfolding opinionOf
+    judge-overload a ne g =
+        let w = found-over ne in
+        rw g
+        record {
+          answer = simp (sym is-loose ∙ no, overloaded-some τ (f .at) (w .1), w .0, opinionOf);
+          witness = λ z. w .1;
+        }
+
+    pub judge-unsettled : (a : Assessment) → f .at ≡ 0 → 1000000 < y .length → a ≡ refusedOf Unsettled → Judged τ a
+    unfolding opinionOf settled
+    judge-unsettled a z h g =
+        rw g
+        record {
+          answer = simp (sym is-loose ∙ no, found-none z, lt-leb (busyLength τ) horizon (omega (arith, s .is)), opinionOf);
+          witness = λ z. absurd (omega arith);
+        }
+
+    pub judge-tight : (n : ℕ) → n ≡ τ .rows → f .at ≡ 0 → y .length ≤ 1000000 → Judged τ (record { verdict = Tight n; budgets = b .values })
+    unfolding opinionOf settled
+    judge-tight n k z h = record {
+      answer = simp (sym is-loose ∙ no, found-none z, le-leb (busyLength τ) horizon (omega (arith, s .is)), k, is-values, opinionOf);
+      witness = λ z. absurd (omega arith);
+    }
+
+pub ruleset judge-cases = (judge-loose, judge-overload, judge-unsettled, judge-tight)
+
+-- ---- and for any slice
+
+module _ (l : List ℕ) (b : Bool) (e : b ≡ badLength (length l)) where
+  pub assess-length : (a : Assessment) → b ≡ true → a ≡ refusedOf (Length (length l)) → Assessed l a
+  unfolding answerOf
+  assess-length a t g = rw g record { answer = simp (sym e ∙ t, answerOf); witness = λ z. absurd (omega arith) }
+
+  module _ (i n : ℕ) (f : i ≡ firstBroken (tasksOf l)) (k : n ≡ tasksOf l .rows) (no : b ≡ false) where
+    pub assess-row : (a : Assessment) → i < n → a ≡ refusedOf (Row i) → Assessed l a
+    unfolding answerOf
+    assess-row a h g =
+        rw g
+        record {
+          answer = simp (sym e ∙ no, lt-ltb (firstBroken (tasksOf l)) (tasksOf l .rows) (omega arith), f, answerOf);
+          witness = λ z. absurd (omega arith);
+        }
+
+    pub assess-fit : n ≤ i → Fit (tasksOf l)
+    assess-fit h = let g = length-fit l (sym e ∙ no) in fit-of (tasksOf l) (g .0) (g .1) (omega arith)
+
+    pub assess-judged : (a : Assessment) → n ≤ i → Judged (tasksOf l) a → Assessed l a
+    unfolding answerOf
+    assess-judged a h j = record {
+      answer = simp (sym e ∙ no, le-ltb (firstBroken (tasksOf l)) (tasksOf l .rows) (omega arith), answerOf) (j .answer);
+      witness = j .witness;
+    }
+
+pub ruleset assess-cases = (assess-length, assess-row, assess-fit, assess-judged)

@@ -7,3 +7,5 @@ pub mod Busy
 pub mod Overload
 pub mod Verdict
 pub mod Assess
+pub mod Theorems
+pub mod Compute

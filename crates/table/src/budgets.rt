@@ -1,6 +1,7 @@
 // V of each row, the inversion budget: how long later jobs may run before a waiting one (docs/SPECIFICATION.md §2.2).
 ghost use mathlib.Core.Path.{_≡_};
 ghost use Prim.Native.Nat.{_+_, _<_, _≤_, _^_};
+ghost use lib.IntN.{natAbs};
 ghost use Rattle.bounded.specs.Signed.{difference, negative};
 ghost use Rattle.edf.specs.Demand.{interference};
 ghost use Rattle.table.specs.Rows.{tasksOf, Fit};
@@ -50,10 +51,21 @@ fn minus(a: u64, b: u64, c: u64) -> i64
     (a as i64) - (b as i64) - (c as i64)
 }
 
-fn below_zero(v: i64) -> bool
+pub fn below_zero(v: i64) -> bool
     ensures { λ r. ⌜ r ≡ negative v ⌝ }
 {
     v < 0
+}
+
+// |v|, for whoever writes v down.
+pub fn magnitude(v: i64) -> u64
+    ensures { λ r. ⌜ r ≡ natAbs v ⌝ }
+{
+    if v < 0 {
+        let m = -1 - v;
+        return (m as u64) + 1;
+    }
+    v as u64
 }
 
 // V of row i: D, less C, less what the others can take until the deadline.

@@ -3,14 +3,14 @@ ghost use mathlib.Core.Path.{_≡_};
 ghost use Prim.Native.Nat.{min};
 ghost use Rattle.table.specs.Rows.{tasksOf, Fit};
 ghost use Rattle.table.specs.Verdict.{badLength};
-ghost use Rattle.table.specs.Assess.{Judged, Assessed, refusedOf};
+ghost use Rattle.table.specs.Assess.{Shows, Judged, Assessed, refusedOf};
 
-pub mod rows;
-pub mod request;
 pub mod budgets;
-pub mod demand;
 pub mod busy;
+pub mod demand;
 pub mod overload;
+pub mod request;
+pub mod rows;
 
 // The two kinds of an admitted table, and the four refusals (docs/SPECIFICATION.md §3; `shownOf` gives their numbers).
 pub enum Verdict {
@@ -32,10 +32,57 @@ pub struct Assessment {
     pub budgets: [i64; 16],
 }
 
+// What a reader of numbers sees of a verdict: its number, 0 where the table is admitted, and two values.
+pub struct Numbers {
+    pub number: u64,
+    pub first: u64,
+    pub second: u64,
+}
+
+pub fn shown(verdict: Verdict) -> Numbers
+    ensures { λ r. ⌜ Shows verdict r ⌝ }
+{
+    match verdict {
+        Verdict::Loose { rows } => Numbers {
+            number: 0,
+            first: 1,
+            second: rows as u64,
+        },
+        Verdict::Tight { rows } => Numbers {
+            number: 0,
+            first: 2,
+            second: rows as u64,
+        },
+        Verdict::Length(n) => Numbers {
+            number: 1,
+            first: n as u64,
+            second: 0,
+        },
+        Verdict::Row(i) => Numbers {
+            number: 2,
+            first: i as u64,
+            second: 0,
+        },
+        Verdict::Overload { at, demand } => Numbers {
+            number: 3,
+            first: at,
+            second: demand,
+        },
+        Verdict::Unsettled => Numbers {
+            number: 4,
+            first: 1000000,
+            second: 0,
+        },
+    }
+}
+
 fn refused(verdict: Verdict) -> Assessment
     ensures { λ r. ⌜ r ≡ refusedOf verdict ⌝ }
 {
-    Assessment { verdict, budgets: [0i64; 16] }
+    Assessment {
+        verdict,
+        budgets: [0i64; 16],
+    }
 }
 
 // Whether no table is n numbers long: 0, above 48, or no multiple of 3.
@@ -67,17 +114,26 @@ fn judge(words: &[u32]) -> Assessment
     let b = budgets::all_budgets(words);
     let values = b.values;
     if b.loose {
-        return Assessment { verdict: Verdict::Loose { rows }, budgets: values };
+        return Assessment {
+            verdict: Verdict::Loose { rows },
+            budgets: values,
+        };
     }
     let busy = busy::busy_length(words);
     let found = overload::search(words, compared(busy.length));
     if found.at != 0 {
-        return refused(Verdict::Overload { at: found.at, demand: found.demand });
+        return refused(Verdict::Overload {
+            at: found.at,
+            demand: found.demand,
+        });
     }
     if 1000000 < busy.length {
         return refused(Verdict::Unsettled);
     }
-    Assessment { verdict: Verdict::Tight { rows }, budgets: values }
+    Assessment {
+        verdict: Verdict::Tight { rows },
+        budgets: values,
+    }
 }
 
 // The verdict on any slice.

@@ -1,12 +1,10 @@
+-- `table::budgets::below_zero` meets its contract. Assumes nothing.
 use mir.Facts.{toZ-ofZ}
-use Rattle.bounded.specs.Signed.{negative-lt}
 use borrow.Author.Needs.{needs}
+use Rattle.bounded.specs.Signed.{negative-lt}
 use Rattle.table.proofs.budgets.below_zero.Statement.{statement}
 use Rattle.table.proofs.budgets.below_zero.Tie as tie
-use Rattle.table.proofs.budgets.below_zero.Reads as reads
-use Rattle.table.proofs.budgets.below_zero.Lts as lts
 
--- src/budgets.rt:53:1
 returns : tie.Need-returns
 returns c = simp (toZ-ofZ (c .fits .v)) (negative-lt (c .args .v))
 

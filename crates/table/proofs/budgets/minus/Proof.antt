@@ -1,31 +1,24 @@
-use Rattle.bounded.specs.Signed.{first-fits, second-fits, difference-back}
+-- `table::budgets::minus` meets its contract. Assumes nothing.
 use borrow.Author.Needs.{needs}
+use Rattle.bounded.specs.Signed.{first-fits, second-fits, difference-back}
 use Rattle.table.proofs.budgets.minus.Statement.{statement}
 use Rattle.table.proofs.budgets.minus.Tie as tie
-use Rattle.table.proofs.budgets.minus.Reads as reads
-use Rattle.table.proofs.budgets.minus.Lts as lts
 
--- src/budgets.rt:50:6
 cast-result : tie.Need-cast-result
 cast-result c = search needs
 
--- src/budgets.rt:50:19
 cast-result-2 : tie.Need-cast-result-2
 cast-result-2 c = search needs
 
--- src/budgets.rt:50:5
 sub-result : tie.Need-sub-result
 sub-result c = first-fits _ _ _ (c .pre .0) (c .pre .1) (c .pre .2)
 
--- src/budgets.rt:50:32
 cast-result-3 : tie.Need-cast-result-3
 cast-result-3 c = search needs
 
--- src/budgets.rt:50:5
 sub-result-2 : tie.Need-sub-result-2
 sub-result-2 c = second-fits _ _ _ (c .pre .0) (c .pre .1) (c .pre .2)
 
--- src/budgets.rt:46:1
 returns : tie.Need-returns
 returns c = difference-back _ _ _ (c .pre .0) (c .pre .1) (c .pre .2)
 

@@ -1,29 +1,22 @@
+-- `table::budgets::put` meets its contract. Assumes nothing.
 use mir.Facts.{toZ-ofZ}
-use Rattle.table.specs.Budgets.{put-negative, put-other}
 use borrow.Author.Needs.{needs}
+use Rattle.table.specs.Budgets.{put-negative, put-other}
 use Rattle.table.proofs.budgets.put.Statement.{statement}
 use Rattle.table.proofs.budgets.put.Tie as tie
-use Rattle.table.proofs.budgets.put.Reads as reads
-use Rattle.table.proofs.budgets.put.Lts as lts
-use Rattle.table.proofs.budgets.below_zero.Reads as below-zero-reads
 
--- src/budgets.rt:74:5
 mul-v : tie.Need-mul-v
 mul-v c = search needs
 
--- src/budgets.rt:74:5
 element-set-from-v : tie.Need-element-set-from-v
 element-set-from-v c = search needs
 
--- src/budgets.rt:75:8
 below-zero-requires : tie.Need-below-zero-requires
 below-zero-requires c κs = search needs
 
--- src/budgets.rt:69:1
 returns : tie.Need-returns
 returns c = put-negative _ _ _ _ _ (toZ-ofZ (c .before .before .fits .v)) (c .before .below-zero .ensures) (c .if1 .taken)
 
--- src/budgets.rt:69:1
 returns-2 : tie.Need-returns-2
 returns-2 c = put-other _ _ _ _ _ (toZ-ofZ (c .before .before .fits .v)) (c .before .below-zero .ensures) (c .if1 .left)
 

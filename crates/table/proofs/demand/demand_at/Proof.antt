@@ -1,16 +1,13 @@
-use mathlib.Core.Path.{_≡_}
+-- `table::demand::demand_at` meets its contract. Assumes nothing.
 use Prim.Native.Nat.{_≤_, _-_, _*_}
-use Rattle.edf.specs.Demand.{rowDemand, demand}
-use Rattle.bounded.specs.Sum.{sumTo}
-use Rattle.table.specs.Rows.{tasksOf}
-use Rattle.table.specs.Bound.{total-laws}
+use mathlib.Core.Path.{_≡_}
 use borrow.Author.Needs.{needs}
+use Rattle.bounded.specs.Sum.{sumTo}
+use Rattle.edf.specs.Demand.{rowDemand, demand}
+use Rattle.table.specs.Bound.{total-laws}
+use Rattle.table.specs.Rows.{tasksOf}
 use Rattle.table.proofs.demand.demand_at.Statement.{statement}
 use Rattle.table.proofs.demand.demand_at.Tie as tie
-use Rattle.table.proofs.demand.demand_at.Reads as reads
-use Rattle.table.proofs.demand.demand_at.Lts as lts
-use Rattle.table.proofs.demand.row_demand.Reads as row-demand-reads
-use Rattle.table.proofs.rows.count.Reads as count-reads
 
 abbrev Inv-loop : tie.InvT-loop
 Inv-loop words t n sum₀ i₀ sum i = (i ≤ n) × (sum ≡ sumTo (rowDemand (tasksOf words) t) i) × (sum ≤ 1000000000000 * i)
@@ -18,35 +15,27 @@ Inv-loop words t n sum₀ i₀ sum i = (i ≤ n) × (sum ≡ sumTo (rowDemand (t
 abbrev μ-loop : tie.MeasureT-loop
 μ-loop words t n sum₀ i₀ sum i = n - i
 
--- src/demand.rt:35:9
 count-requires : tie.Need-count-requires Inv-loop μ-loop
 count-requires c κs = search needs
 
--- src/demand.rt:38:5
 loop-holds : tie.Need-loop-holds Inv-loop μ-loop
 loop-holds c = search (needs, total-laws)
 
--- src/demand.rt:39:21
 row-demand-requires : tie.Need-row-demand-requires Inv-loop μ-loop
 row-demand-requires c κs = search needs
 
--- src/demand.rt:39:15
 add-sum : tie.Need-add-sum Inv-loop μ-loop
 add-sum c = search needs
 
--- src/demand.rt:40:13
 add-i : tie.Need-add-i Inv-loop μ-loop
 add-i c = search needs
 
--- src/demand.rt:38:5
 loop-less : tie.Need-loop-less Inv-loop μ-loop
 loop-less c = search needs
 
--- src/demand.rt:38:5
 loop-again : tie.Need-loop-again Inv-loop μ-loop
 loop-again c = search (needs, total-laws)
 
--- src/demand.rt:31:1
 returns : tie.Need-returns Inv-loop μ-loop
 unfolding demand
 returns c = search (needs, total-laws)

@@ -1,16 +1,13 @@
-use mathlib.Core.Path.{_≡_}
+-- `table::request::requested` meets its contract. Assumes nothing.
 use Prim.Native.Nat.{_≤_, _-_, _*_}
-use Rattle.edf.specs.Demand.{rowRequest, request}
-use Rattle.bounded.specs.Sum.{sumTo}
-use Rattle.table.specs.Rows.{tasksOf}
-use Rattle.table.specs.Bound.{total-laws}
+use mathlib.Core.Path.{_≡_}
 use borrow.Author.Needs.{needs}
+use Rattle.bounded.specs.Sum.{sumTo}
+use Rattle.edf.specs.Demand.{rowRequest, request}
+use Rattle.table.specs.Bound.{total-laws}
+use Rattle.table.specs.Rows.{tasksOf}
 use Rattle.table.proofs.request.requested.Statement.{statement}
 use Rattle.table.proofs.request.requested.Tie as tie
-use Rattle.table.proofs.request.requested.Reads as reads
-use Rattle.table.proofs.request.requested.Lts as lts
-use Rattle.table.proofs.request.row_request.Reads as row-request-reads
-use Rattle.table.proofs.rows.count.Reads as count-reads
 
 abbrev Inv-loop : tie.InvT-loop
 Inv-loop words x n sum₀ i₀ sum i = (i ≤ n) × (sum ≡ sumTo (rowRequest (tasksOf words) x) i) × (sum ≤ 1000000000000 * i)
@@ -18,35 +15,27 @@ Inv-loop words x n sum₀ i₀ sum i = (i ≤ n) × (sum ≡ sumTo (rowRequest (
 abbrev μ-loop : tie.MeasureT-loop
 μ-loop words x n sum₀ i₀ sum i = n - i
 
--- src/request.rt:32:9
 count-requires : tie.Need-count-requires Inv-loop μ-loop
 count-requires c κs = search needs
 
--- src/request.rt:35:5
 loop-holds : tie.Need-loop-holds Inv-loop μ-loop
 loop-holds c = search (needs, total-laws)
 
--- src/request.rt:36:21
 row-request-requires : tie.Need-row-request-requires Inv-loop μ-loop
 row-request-requires c κs = search needs
 
--- src/request.rt:36:15
 add-sum : tie.Need-add-sum Inv-loop μ-loop
 add-sum c = search needs
 
--- src/request.rt:37:13
 add-i : tie.Need-add-i Inv-loop μ-loop
 add-i c = search needs
 
--- src/request.rt:35:5
 loop-less : tie.Need-loop-less Inv-loop μ-loop
 loop-less c = search needs
 
--- src/request.rt:35:5
 loop-again : tie.Need-loop-again Inv-loop μ-loop
 loop-again c = search (needs, total-laws)
 
--- src/request.rt:28:1
 returns : tie.Need-returns Inv-loop μ-loop
 unfolding request
 returns c = search (needs, total-laws)

@@ -1,0 +1,46 @@
+-- `table::assess` meets its contract. Assumes nothing.
+use borrow.Author.Needs.{needs}
+use Rattle.table.specs.Assess.{assess-cases}
+use Rattle.table.proofs.assess.Statement.{statement}
+use Rattle.table.proofs.assess.Tie as tie
+
+ill-sized-requires : tie.Need-ill-sized-requires
+ill-sized-requires c κs = search needs
+
+refused-requires : tie.Need-refused-requires
+refused-requires c κs = search needs
+
+returns : tie.Need-returns
+returns c = search (needs, assess-cases)
+
+first-broken-requires : tie.Need-first-broken-requires
+first-broken-requires c κs = search needs
+
+count-requires : tie.Need-count-requires
+count-requires c κs = search needs
+
+refused-requires-2 : tie.Need-refused-requires-2
+refused-requires-2 c κs = search needs
+
+returns-2 : tie.Need-returns-2
+returns-2 c = search (needs, assess-cases)
+
+judge-requires : tie.Need-judge-requires
+judge-requires c κs = search (needs, assess-cases)
+
+returns-3 : tie.Need-returns-3
+returns-3 c = search (needs, assess-cases)
+
+pub assess-spec : {M : Type 1} → statement M
+assess-spec =
+    tie.close
+    (tie.spec
+    ill-sized-requires
+    refused-requires
+    returns
+    first-broken-requires
+    count-requires
+    refused-requires-2
+    returns-2
+    judge-requires
+    returns-3)

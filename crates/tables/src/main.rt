@@ -1,0 +1,180 @@
+// Answers on document 01's unmarked tables and on others, one a line: number, two values; V of each row of an admitted
+// table; and, for rows that keep their rule, how many sums over the rows the busy length and the search for an overload
+// take, where a scan of the ticks takes as many as the compared range has.
+ghost use Rattle.table.specs.Rows.{tasksOf, Fit};
+use libc::STDOUT_FILENO;
+
+fn put(n: u64) {
+    io::print_decimal(STDOUT_FILENO, n);
+    io::write_all(STDOUT_FILENO, b"\t");
+}
+
+fn put_signed(v: i64) {
+    if table::budgets::below_zero(v) {
+        io::write_all(STDOUT_FILENO, b"-");
+    }
+    put(table::budgets::magnitude(v));
+}
+
+fn put_budgets(values: [i64; 16], rows: u64) {
+    let mut i: usize = 0;
+    while i < 16 {
+        if (i as u64) < rows {
+            put_signed(values[i]);
+        }
+        i = i + 1;
+    }
+}
+
+// Rows that keep their rule.
+fn put_sums(words: &[u32])
+    requires { ⌜ Fit (tasksOf (now words)) ⌝ }
+{
+    let busy = table::busy::busy_length(words);
+    let end = table::compared(busy.length);
+    let found = table::overload::search(words, end);
+    io::write_all(STDOUT_FILENO, b"sums\t");
+    put(busy.sums);
+    put(found.sums);
+    put(end);
+}
+
+fn answer(words: &[u32]) {
+    let a = table::assess(words);
+    let verdict = a.verdict;
+    let budgets = a.budgets;
+    let n = table::shown(verdict);
+    put(n.number);
+    put(n.first);
+    put(n.second);
+    if n.number == 0 {
+        put_budgets(budgets, n.second);
+    }
+    if n.number != 1 {
+        if n.number != 2 {
+            put_sums(words);
+        }
+    }
+    io::write_all(STDOUT_FILENO, b"\n");
+}
+
+// Document 01's list.
+fn listed() {
+    answer(&[1, 2, 2, 500000, 1000000, 1000000]);
+    answer(&[1, 2, 2, 500000, 999999, 999999]);
+    let sixteen = [
+        1u32,
+        100,
+        100,
+        2,
+        100,
+        100,
+        3,
+        100,
+        100,
+        4,
+        100,
+        100,
+        1,
+        200,
+        150,
+        2,
+        200,
+        150,
+        3,
+        200,
+        150,
+        4,
+        200,
+        150,
+        1,
+        300,
+        300,
+        1,
+        300,
+        300,
+        1,
+        300,
+        300,
+        1,
+        300,
+        300,
+        2,
+        400,
+        400,
+        2,
+        400,
+        400,
+        2,
+        400,
+        400,
+        2,
+        400,
+        400,
+    ];
+    answer(&sixteen);
+    answer(&[1u32; 51]);
+}
+
+// What a slice can be short of, the lower number first.
+fn refused() {
+    answer(&[1u32; 1]);
+    answer(&[1u32; 47]);
+    answer(&[0, 5, 5]);
+    answer(&[3, 5, 2, 9, 9, 9, 9, 9, 9]);
+    answer(&[9, 9, 9, 9, 9, 9, 3, 2, 3]);
+    answer(&[1, 1000001, 1]);
+    answer(&[4294967295, 4294967295, 4294967295]);
+    answer(&[9, 9, 9, 9, 9, 9]);
+}
+
+// Tables that are hard to decide: short periods that use up nearly all of the time.
+fn hard() {
+    answer(&[1, 5, 5, 3, 8, 8, 2, 9, 9, 4, 20, 20]);
+    answer(&[1, 2, 2, 1, 3, 3, 1, 7, 7, 1, 42, 42]);
+    answer(
+        &[
+            1,
+            2,
+            2,
+            1,
+            3,
+            3,
+            1,
+            7,
+            7,
+            1,
+            43,
+            43,
+            1,
+            1807,
+            1807,
+            1,
+            1000000,
+            1000000,
+        ],
+    );
+    answer(&[999, 1000, 1000, 500, 1000000, 500000, 300, 1000000, 1000000]);
+    answer(
+        &[
+            7,
+            10,
+            8,
+            100000,
+            1000000,
+            999999,
+            190000,
+            1000000,
+            1000000,
+            5000,
+            700000,
+            60000,
+        ],
+    );
+}
+
+fn main() {
+    listed();
+    refused();
+    hard();
+}
