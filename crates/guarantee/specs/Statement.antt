@@ -1,0 +1,66 @@
+-- What is guaranteed over every list of calls (docs/SPECIFICATION.md §6.2). Definitions only. Assumes nothing.
+use Prim.Native.Nat.{ℕ, _+_, _≤_, _<_}
+use mathlib.Core.Path.{_≡_}
+use mathlib.Core.Bool.{true}
+use mathlib.Core.List.{List, [], _∷_}
+use Rattle.edf.specs.Demand.{TaskSet}
+use Rattle.edf.specs.Arrivals.{Unservable}
+use Rattle.table.specs.Rows.{tasksOf}
+use Rattle.table.specs.Verdict.{answerOf}
+use Rattle.session.specs.declared.Session.{Session}
+use Rattle.session.specs.declared.Outcome.{Outcome}
+use Rattle.session.specs.Sound.{sound}
+use Rattle.session.specs.Calls.{shown, arriveOf, chooseOf, advanceOf, finishOf}
+use Rattle.session.specs.Admit.{sessionOf}
+use Rattle.guarantee.specs.Ledger.{Call, arrive, choose, advance, finish, Event, End, none, at, Entry, Ledger, ledgerOf}
+
+-- what a call does to a session, by the definitions that the contracts of the four calls cite
+abbrev pub outcomeOf : Session → Call → Outcome
+outcomeOf s (arrive row) = arriveOf s row
+outcomeOf s (choose l) = chooseOf s l
+outcomeOf s (advance n) = advanceOf s n
+outcomeOf s finish = finishOf s
+
+-- the session after a list of calls, each of which gets the session that the last one left
+unfoldable pub sessionAfter : Session → List Call → Session
+sessionAfter s [] = s
+sessionAfter s (c ∷ l) = sessionAfter (outcomeOf s c .session) l
+
+-- the calls with their answers
+unfoldable pub eventsOf : Session → List Call → List Event
+eventsOf s [] = []
+eventsOf s (c ∷ l) = record { call = c; answer = outcomeOf s c .answer } ∷ eventsOf (outcomeOf s c .session) l
+
+-- a job that is over ended no later than its deadline, arrival + D; any other has its deadline still ahead of the clock
+abbrev pub Timely : TaskSet → ℕ → Entry → Type 0
+Timely τ clock e = by (e .end)
+  where
+    by : End → Type 0
+    by none = clock < e .arrival + τ .D (e .row)
+    by (at x) = x ≤ e .arrival + τ .D (e .row)
+
+abbrev pub AllTimely : TaskSet → ℕ → List Entry → Type 0
+AllTimely τ clock [] = Unit
+AllTimely τ clock (e ∷ l) = Timely τ clock e × AllTimely τ clock l
+
+abbrev pub InTime : TaskSet → Ledger → Type 0
+InTime τ g = AllTimely τ (g .clock) (g .entries)
+
+-- NO JOB IS LATE: from the fresh session of every admitted table, after every list of calls
+abbrev pub NoJobLate : Type 0
+NoJobLate =
+    (l : List ℕ) (t : ℕ) → answerOf l t .number ≡ 0
+    → (calls : List Call) → InTime (tasksOf l) (ledgerOf (tasksOf l) (eventsOf (sessionOf l t) calls))
+
+-- the session reached is sound, so that no call from a fresh session is refused with 5
+abbrev pub AlwaysSound : Type 0
+AlwaysSound = (l : List ℕ) (t : ℕ) → answerOf l t .number ≡ 0 → (calls : List Call) → sound (sessionAfter (sessionOf l t) calls) ≡ true
+
+abbrev pub NeverFive : Type 0
+NeverFive =
+    (l : List ℕ) (t : ℕ) → answerOf l t .number ≡ 0
+    → (calls : List Call) (c : Call) → shown (outcomeOf (sessionAfter (sessionOf l t) calls) c .answer) .number ≡ 5 → ⊥
+
+-- each table refused as overloaded has allowed arrivals of which every order of work leaves some job not served in time
+abbrev pub OverloadDeserved : Type 0
+OverloadDeserved = (l : List ℕ) (t : ℕ) → answerOf l t .number ≡ 3 → Unservable (tasksOf l)

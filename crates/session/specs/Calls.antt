@@ -1,0 +1,148 @@
+-- The four calls (docs/SPECIFICATION.md §5.3 to §5.7). Assumes nothing.
+use Prim.Native.Nat.{ℕ, _+_, _-_}
+use mathlib.Core.Bool.{Bool, _&&_, _||_, cond}
+use mathlib.Core.List.{List}
+use lib.Dec.{leb, ltb, eqb}
+use lib.ListN.{set}
+use Rattle.bounded.specs.Fold.{foldTo}
+use Rattle.table.specs.Rows.{horizon}
+use Rattle.session.specs.declared.Job.{Job}
+use Rattle.session.specs.declared.Session.{Session}
+use Rattle.session.specs.declared.Answer.{Answer}
+use Rattle.session.specs.declared.Answer.the-variants.{Arrived, Chosen, Advanced, Finished, Unsound, NoRow, TooEarly, InForce, NoChoice, BadStep, Idling, ClockEnd}
+use Rattle.session.specs.declared.Outcome.{Outcome}
+use Rattle.session.specs.Reading.{idle, clockEnd, noJob, jobAt, tasks, waits, ahead, startBudget}
+use Rattle.session.specs.Sound.{sound}
+use Rattle.session.specs.Choose.{pickOf, pickUsed, spanOf, usedOf}
+
+-- an answer's number, 0 where the call is accepted, and its two values
+pub record Shown : Type 0 where
+  pub number : ℕ
+  pub first : ℕ
+  pub second : ℕ
+
+abbrev three : ℕ → ℕ → ℕ → Shown
+three n a b = record { number = n; first = a; second = b }
+
+abbrev pub shown : Answer → Shown
+shown (Arrived row due) = three 0 row due
+shown (Chosen row span) = three 0 row span
+shown (Advanced left over) = three 0 left over
+shown (Finished row unused) = three 0 row unused
+shown Unsound = three 5 0 0
+shown (NoRow row) = three 6 row 0
+shown (TooEarly row next) = three 7 row next
+shown (InForce left) = three 8 left 0
+shown NoChoice = three 9 0 0
+shown (BadStep left) = three 10 left 0
+shown Idling = three 11 0 0
+shown ClockEnd = three 12 clockEnd 0
+
+-- a refused call leaves the same session and uses no word
+abbrev pub refused : Session → Answer → Outcome
+refused s a = record { answer = a; used = 0; session = s }
+
+abbrev pub accepted : Session → Answer → Outcome
+accepted s a = record { answer = a; used = 0; session = s }
+
+-- a session with other jobs and another clock, and a choice: c with n ticks left, none where n is 0
+abbrev pub changed : Session → ℕ → List Job → ℕ → ℕ → Session
+changed s clock jobs c n = record {
+  clock = clock;
+  kind = s .kind;
+  count = s .count;
+  words = s .words;
+  jobs = jobs;
+  chosen = c;
+  span = n;
+}
+
+-- ---- arrive
+
+-- earliest next arrival clock + T; the job waits with deadline clock + D, remaining C, and the starting budget
+abbrev pub arrivedJob : Session → ℕ → Job
+arrivedJob s row = record {
+  next = s .clock + tasks s .T row;
+  due = s .clock + tasks s .D row;
+  left = tasks s .C row;
+  budget = startBudget (s .kind) (tasks s) row;
+}
+
+-- a choice in force is dropped
+unfoldable pub arriveIn : Session → ℕ → Outcome
+arriveIn s row =
+    cond (leb (s .count) row) (refused s (NoRow row))
+    (cond (ltb (s .clock) (jobAt s row .next)) (refused s (TooEarly row (jobAt s row .next)))
+    (accepted (changed s (s .clock) (set (s .jobs) row (arrivedJob s row)) 0 0) (Arrived row (s .clock + tasks s .D row))))
+
+-- ---- choose
+
+unfoldable pub chooseIn : Session → List ℕ → Outcome
+chooseIn s l =
+    cond (ltb 0 (s .span)) (refused s (InForce (s .span)))
+    record {
+      answer = Chosen (pickOf s l) (spanOf s l (pickUsed s l) (pickOf s l));
+      used = usedOf s l;
+      session = changed s (s .clock) (s .jobs) (pickOf s l) (spanOf s l (pickUsed s l) (pickOf s l));
+    }
+
+-- ---- advance
+
+-- a job that is over leaves the row's earliest next arrival
+abbrev pub overJob : Session → ℕ → Job
+overJob s i = record { next = jobAt s i .next; due = 0; left = 0; budget = 0 }
+
+-- row i after n ticks of the choice in force: the chosen job's remaining falls by n, and at 0 it is over; each waiting
+-- job of strictly earlier deadline (all, under idle) loses n of budget
+unfoldable pub agedJob : Session → ℕ → ℕ → Job
+agedJob s n i =
+    cond (eqb i (s .chosen))
+    (cond (eqb (jobAt s i .left) n) (overJob s i)
+    record { next = jobAt s i .next; due = jobAt s i .due; left = jobAt s i .left - n; budget = jobAt s i .budget })
+    (cond (ahead s (s .chosen) i)
+    record { next = jobAt s i .next; due = jobAt s i .due; left = jobAt s i .left; budget = jobAt s i .budget - n }
+    (jobAt s i))
+
+unfoldable pub agedJobs : Session → ℕ → ℕ → List Job
+agedJobs s n k = foldTo (λ l i. set l i (agedJob s n i)) (s .jobs) k
+
+-- 1 if the chosen job is over after n ticks
+unfoldable pub overAfter : Session → ℕ → ℕ
+overAfter s n = cond (eqb (s .chosen) idle) 0 (cond (eqb (jobAt s (s .chosen) .left) n) 1 0)
+
+-- a used-up span ends the choice
+unfoldable pub advanceIn : Session → ℕ → Outcome
+advanceIn s n =
+    cond (eqb (s .span) 0) (refused s NoChoice)
+    (cond (eqb n 0 || ltb (s .span) n) (refused s (BadStep (s .span)))
+    (cond (ltb clockEnd (s .clock + n)) (refused s ClockEnd)
+    (accepted
+    (changed s (s .clock + n) (agedJobs s n (s .count)) (cond (eqb (s .span) n) 0 (s .chosen)) (s .span - n))
+    (Advanced (s .span - n) (overAfter s n)))))
+
+-- ---- finish
+
+-- the chosen job is over early and the choice ends; its remaining ticks are reported as unused
+unfoldable pub finishIn : Session → Outcome
+finishIn s =
+    cond (eqb (s .span) 0) (refused s NoChoice)
+    (cond (eqb (s .chosen) idle) (refused s Idling)
+    (accepted (changed s (s .clock) (set (s .jobs) (s .chosen) (overJob s (s .chosen))) 0 0)
+    (Finished (s .chosen) (jobAt s (s .chosen) .left))))
+
+-- ---- any session: one that is not sound is refused before all else
+
+abbrev pub guarded : Session → Outcome → Outcome
+guarded s o = cond (sound s) o (refused s Unsound)
+
+unfoldable pub arriveOf : Session → ℕ → Outcome
+arriveOf s row = guarded s (arriveIn s row)
+
+unfoldable pub chooseOf : Session → List ℕ → Outcome
+chooseOf s l = guarded s (chooseIn s l)
+
+unfoldable pub advanceOf : Session → ℕ → Outcome
+advanceOf s n = guarded s (advanceIn s n)
+
+unfoldable pub finishOf : Session → Outcome
+finishOf s = guarded s (finishIn s)

@@ -1,0 +1,67 @@
+// The session: a value that goes in and comes back with each call (docs/SPECIFICATION.md §5).
+
+// A row's earliest next arrival; and its waiting job's deadline, remaining ticks and budget left (the remaining inversion
+// budget). No job of the row waits where `left` is 0; `due` and `budget` are then 0 too.
+#[repr(C)]
+pub struct Job {
+    pub next: u64,
+    pub due: u64,
+    pub left: u64,
+    pub budget: u64,
+}
+
+// Numbers only, so that every content of its memory is a session.
+#[repr(C)]
+pub struct Session {
+    pub clock: u64,
+    // 1 loose, 2 tight.
+    pub kind: u64,
+    // The rows, and three numbers to each: C, T, D.
+    pub count: u64,
+    pub words: [u32; 48],
+    pub jobs: [Job; 16],
+    // The choice in force: a row, or 16 for idle, and its ticks left; none is in force where these are 0.
+    pub chosen: u64,
+    pub span: u64,
+}
+
+// What a call answers (§5.7; `shown` gives the number and two values of each).
+pub enum Answer {
+    Arrived { row: u64, due: u64 },
+    Chosen { row: u64, span: u64 },
+    Advanced { left: u64, over: u64 },
+    Finished { row: u64, unused: u64 },
+    // 5: the session is not sound.
+    Unsound,
+    // 6: the row is not in the table.
+    NoRow(u64),
+    // 7: the row's earliest next arrival is ahead.
+    TooEarly { row: u64, next: u64 },
+    // 8: a choice is in force; its ticks left.
+    InForce(u64),
+    // 9: no choice is in force.
+    NoChoice,
+    // 10: the step is 0 or above the ticks left, which are given.
+    BadStep(u64),
+    // 11: idle is running.
+    Idling,
+    // 12: the clock would pass its end.
+    ClockEnd,
+}
+
+// The answer, how many words a choice used, and the session that the call leaves.
+pub struct Outcome {
+    pub answer: Answer,
+    pub used: u64,
+    pub session: Session,
+}
+
+impl Session {
+    pub const IDLE: u64 = 16;
+
+    pub const HORIZON: u64 = 1000000;
+
+    pub const CLOCK_END: u64 = 9007199254740992;
+
+    pub const ROWS: usize = 16;
+}
