@@ -1,7 +1,8 @@
 -- A test's two outcomes, and a number that counts only where a test passes. Assumes nothing.
 use Prim.Native.Nat.{ℕ, _≤_}
 use mathlib.Core.Path.{_≡_, refl}
-use mathlib.Core.Bool.{Bool, true, false, _&&_, false≢true}
+use mathlib.Core.Bool.{Bool, true, false, not, _&&_, _||_, false≢true}
+use mathlib.Core.Logic.{_⊎_, inl, inr}
 use native.Mathlib.Omega.{arith}
 
 -- each outcome with its equation
@@ -13,6 +14,23 @@ both false f g = g refl
 pub and-true : (a b : Bool) → (a && b) ≡ true → (a ≡ true) × (b ≡ true)
 and-true true b e = (refl, e)
 and-true false b e = absurd (false≢true e)
+
+pub and-both : (a b : Bool) → a ≡ true → b ≡ true → (a && b) ≡ true
+and-both a b e f = simp (e, f)
+
+-- a test that passes wherever another does
+pub so-then : (a b : Bool) → (not a || b) ≡ true → a ≡ true → b ≡ true
+so-then true b e t = e
+so-then false b e t = absurd (false≢true t)
+
+pub then-so : (a b : Bool) → (a ≡ true → b ≡ true) → (not a || b) ≡ true
+then-so true b h = h refl
+then-so false b h = refl
+
+-- one of two tests passes
+pub or-true : (a b : Bool) → (a || b) ≡ true → (a ≡ true) ⊎ (b ≡ true)
+or-true true b e = inl refl
+or-true false b e = inr e
 
 -- x where the test passes, and 0 where it fails
 unfoldable pub gate : Bool → ℕ → ℕ

@@ -7,8 +7,9 @@ use native.Mathlib.Nat.{le-refl}
 use native.Mathlib.Omega.{arith}
 use native.Mathlib.Decide.{decLe, decLt, ℕ-discrete}
 use borrow.Author.Tests.{ltb-true}
+use Rattle.bounded.specs.Tests.{both}
 use Rattle.edf.specs.Demand.{TaskSet, Lawful, Feasible}
-use Rattle.edf.specs.State.{State, soonest, pending, load, WellFormed, Slack, SlackOn, AllSlack, Elapsed, Head, pending-le, pending-in, pending-later, soonest-le, load-same, load-less, free-slack, slack-ahead}
+use Rattle.edf.specs.State.{State, soonest, pending, load, WellFormed, Slack, SlackOn, AllSlack, Elapsed, Head, pending-le, pending-in, pending-idle, pending-later, soonest-le, load-same, load-less, free-slack, slack-ahead}
 use Rattle.edf.specs.Steps.{Run, Idle}
 
 module _ (τ : TaskSet) (ok : Lawful τ) (s s′ : State) (k m : ℕ) (st : Run τ k m s s′) where
@@ -16,8 +17,9 @@ module _ (τ : TaskSet) (ok : Lawful τ) (s s′ : State) (k m : ℕ) (st : Run 
   run-waits : (i : ℕ) → i < τ .rows → s′ .waits i ≡ true → s .waits i ≡ true
   run-waits i l w = dite (ℕ-discrete i k) (λ e. rw e (st .waiting)) (λ ne. sym ((st .others i l ne) .waits) ∙ w)
 
-  run-due : (i : ℕ) → i < τ .rows → s′ .due i ≡ s .due i
-  run-due i l = dite (ℕ-discrete i k) (λ e. rw e (st .due)) (λ ne. (st .others i l ne) .due)
+  run-due : (i : ℕ) → i < τ .rows → s′ .waits i ≡ true → s′ .due i ≡ s .due i
+  run-due i l w =
+      dite (ℕ-discrete i k) (λ e. let v : s′ .waits k ≡ true = rw e at w in rw e (st .due v)) (λ ne. (st .others i l ne) .due)
 
   run-next : (i : ℕ) → i < τ .rows → s′ .next i ≡ s .next i
   run-next i l = dite (ℕ-discrete i k) (λ e. rw e (st .next)) (λ ne. (st .others i l ne) .next)
@@ -35,15 +37,20 @@ module _ (τ : TaskSet) (ok : Lawful τ) (s s′ : State) (k m : ℕ) (st : Run 
   pub run-le : (d : ℕ) → load τ s′ d ≤ load τ s d
   run-le d =
       dite (decLe (s .due k) d) (λ h. omega (arith, run-less d h))
-      (λ h. omega (arith, run-fall d 0 (omega (arith, pending-later s′ d k (omega arith)))))
+      (λ h.
+      let none : pending s′ d k ≡ 0 =
+      both (s′ .waits k) (λ w. pending-later s′ d k (omega (arith, st .due w))) (λ w. pending-idle s′ d k w) in
+      omega (arith, run-fall d 0 (omega arith)))
 
   pub run-slack : Slack τ s → Slack τ s′
   run-slack sl i l w =
       let v = run-waits i l w in
       let u = sl i l v in
-      rw (run-due i l)
+      rw (run-due i l w)
       (dite (ℕ-discrete i k)
-      (λ e. rw e (omega (arith, run-less (s .due k) (le-refl (s .due k)), sl k (st .row) (st .waiting))))
+      (λ e.
+      let x : s′ .waits k ≡ true = rw e at w in
+      rw e (omega (arith, run-less (s .due k) (le-refl (s .due k)), sl k (st .row) (st .waiting), st .budget x)))
       (λ ne. dite (decLt (s .due i) (s .due k))
       (λ h. omega (arith, run-le (s .due i), st .earlier i l ne v h))
       (λ h. omega (arith, run-less (s .due i) (omega arith), st .later i l ne v (omega arith)))))
@@ -63,14 +70,17 @@ module _ (τ : TaskSet) (ok : Lawful τ) (s s′ : State) (k m : ℕ) (st : Run 
       record {
         some = r .0;
         most = omega arith;
-        deadline = omega (arith, run-due i l, run-next i l);
+        deadline = omega (arith, run-due i l w, run-next i l);
         ahead = slack-ahead τ ok s′ (run-slack sl) i l w (r .0);
       }
 
   pub run-elapsed : Elapsed τ s → Elapsed τ s′
   run-elapsed el i l w =
       let u = el i l (run-waits i l w) in
-      dite (ℕ-discrete i k) (λ e. rw e (omega (arith, el k (st .row) (st .waiting))))
+      dite (ℕ-discrete i k)
+      (λ e.
+      let x : s′ .waits k ≡ true = rw e at w in
+      rw e (omega (arith, el k (st .row) (st .waiting), st .due x)))
       (λ ne. omega (arith, st .others i l ne))
 
   -- by each time from the running job's deadline on there is time for the load, as before
@@ -84,7 +94,7 @@ module _ (τ : TaskSet) (ok : Lawful τ) (s s′ : State) (k m : ℕ) (st : Run 
   run-head fe head W W′ sub al d v h =
       dite (decLe (s .due k) d)
       (λ p. omega (arith, run-less d p, al d (sub d v) (omega arith)))
-      (λ p. free-slack τ ok fe s′ d (λ i l w. omega (arith, run-due i l, head i l (run-waits i l w))) h)
+      (λ p. free-slack τ ok fe s′ d (λ i l w. omega (arith, run-due i l w, head i l (run-waits i l w))) h)
 
   pub run-all : Feasible τ → Head τ s k → AllSlack τ s → AllSlack τ s′
   run-all fe head al d h = run-head fe head (λ d. Unit {0}) (λ d. Unit {0}) (λ d u. u) (λ d u. al d) d tt h

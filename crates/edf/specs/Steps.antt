@@ -26,17 +26,17 @@ pub record Arrive (τ : TaskSet) (k b : ℕ) (s s′ : State) : Type 0 where
   pub others : Others τ k s s′
   pub budgets : (i : ℕ) → i < τ .rows → ¬ (i ≡ k) → s′ .budget i ≡ s .budget i
 
--- the clock rises by m and row k's waiting job runs: its remaining falls by m, and at 0 it is over; each waiting job
--- of strictly earlier deadline loses m of budget
+-- the clock rises by m and row k's waiting job runs: its remaining falls by m, and at 0 it is over, with nothing said of
+-- its deadline; each waiting job of strictly earlier deadline loses m of budget
 pub record Run (τ : TaskSet) (k m : ℕ) (s s′ : State) : Type 0 where
   pub row : k < τ .rows
   pub waiting : s .waits k ≡ true
   pub within : m ≤ s .left k
   pub clock : s′ .clock ≡ s .clock + m
   pub next : s′ .next k ≡ s .next k
-  pub due : s′ .due k ≡ s .due k
+  pub due : s′ .waits k ≡ true → s′ .due k ≡ s .due k
   pub left : s′ .left k ≡ s .left k - m
-  pub budget : s′ .budget k ≡ s .budget k
+  pub budget : s′ .waits k ≡ true → s′ .budget k ≡ s .budget k
   pub waits : s′ .waits k ≡ ltb 0 (s .left k - m)
   pub others : Others τ k s s′
   pub earlier : (i : ℕ) → i < τ .rows → ¬ (i ≡ k) → s .waits i ≡ true → s .due i < s .due k → s′ .budget i + m ≡ s .budget i

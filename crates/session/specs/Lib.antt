@@ -4,3 +4,7 @@ pub mod Order
 pub mod Choose
 pub mod Calls
 pub mod Admit
+pub mod Facts
+pub mod Ahead
+pub mod Soundness
+pub mod Code

@@ -47,8 +47,11 @@ natural (pos n) = n
 natural (negsuc n) = 0
 
 -- a row's starting budget: V in a loose session, 0 in a tight one
+unfoldable pub startBy : ℕ → ℤ → ℕ
+startBy kind v = cond (eqb kind 1) (natural v) 0
+
 unfoldable pub startBudget : ℕ → TaskSet → ℕ → ℕ
-startBudget kind τ i = cond (eqb kind 1) (natural (budgetOf τ i)) 0
+startBudget kind τ i = startBy kind (budgetOf τ i)
 
 -- the session as the theory sees it
 abbrev pub stateOf : Session → State

@@ -1,5 +1,14 @@
 // The session: a value that goes in and comes back with each call (docs/SPECIFICATION.md §5).
 
+
+ghost use mathlib.Core.Path.{_≡_};
+ghost use Rattle.session.specs.Calls.{refused};
+
+pub mod sound;
+pub mod arrive;
+pub mod advance;
+pub mod finish;
+
 // A row's earliest next arrival; and its waiting job's deadline, remaining ticks and budget left (the remaining inversion
 // budget). No job of the row waits where `left` is 0; `due` and `budget` are then 0 too.
 #[repr(C)]
@@ -64,4 +73,11 @@ impl Session {
     pub const CLOCK_END: u64 = 9007199254740992;
 
     pub const ROWS: usize = 16;
+}
+
+// A refused call: the same session, and no word used.
+fn refuse(s: Session, answer: Answer) -> Outcome
+    ensures { λ r. ⌜ r ≡ refused s answer ⌝ }
+{
+    Outcome { answer, used: 0, session: s }
 }

@@ -44,6 +44,18 @@ pub record Shows (v : Verdict) (n : Numbers) : Type 0 where
 abbrev pub shownOf : Assessment → Answer
 shownOf a = shown (a .verdict) (a .budgets)
 
+-- a verdict's number and values are the same with any budgets
+pub shows-of : (a : Assessment) (n : Numbers) → Shows (a .verdict) n → shownOf a ≡ record { number = n .number; first = n .first; second = n .second; budgets = a .budgets }
+shows-of a n s = by (a .verdict) s
+  where
+    by : (v : Verdict) → Shows v n → shown v (a .budgets) ≡ record { number = n .number; first = n .first; second = n .second; budgets = a .budgets }
+    by (Loose r) s = rw (s .number, s .first, s .second)
+    by (Tight r) s = rw (s .number, s .first, s .second)
+    by (Length r) s = rw (s .number, s .first, s .second)
+    by (Row r) s = rw (s .number, s .first, s .second)
+    by (Overload t d) s = rw (s .number, s .first, s .second)
+    by Unsettled s = rw (s .number, s .first, s .second)
+
 -- the answer a on the slice l is the one defined, with the t that it names, and a t that it names is exceeded
 pub record Assessed (l : List ℕ) (a : Assessment) : Type 0 where
   pub answer : shownOf a ≡ answerOf l (shownOf a .first)

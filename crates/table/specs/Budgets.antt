@@ -7,16 +7,16 @@ use native.Mathlib.Omega.{arith}
 use native.Mathlib.Numerals.{add-one}
 use lib.Dec.{eqb}
 use lib.IntN.{ℤ, pos, _-ℤ_}
-use lib.ListN.{set, replicate}
+use lib.ListN.{getD, set, replicate, length-replicate}
 use borrow.Author.Tests.{eq-eqb, ne-eqb, not-false, ltb-false}
 use Rattle.bounded.specs.Tests.{gate, gate-on, gate-off}
-use Rattle.bounded.specs.Fold.{foldTo}
+use Rattle.bounded.specs.Fold.{foldTo, put-at}
 use Rattle.bounded.specs.All.{allTo, all-at}
 use Rattle.bounded.specs.Signed.{difference, negative, difference-negative}
 use Rattle.edf.specs.Demand.{TaskSet, rowRequest, interference}
 use Rattle.table.specs.declared.rows.Task.{Task}
 use Rattle.table.specs.declared.budgets.Budgets.{Budgets}
-use Rattle.table.specs.Rows.{FitRow}
+use Rattle.table.specs.Rows.{Fit, FitRow}
 use Rattle.table.specs.Bound.{Within}
 
 -- V of row i: D − C − the sum, over every other row j, of C of j times (D of i divided by T of j, rounded up)
@@ -100,3 +100,9 @@ unfolding budgetsOf loose valuesOf
 budgets-done τ b i n e l h k = let j : i ≡ τ .rows = omega arith in e ∙ ap (budgetsTo τ) j
 
 pub ruleset budgets-laws = (budgets-start, budgets-next, budgets-done)
+
+-- V of row i stands in place i
+pub values-at : (τ : TaskSet) (i : ℕ) → Fit τ → i < τ .rows → getD (valuesOf τ) i (pos 0) ≡ budgetOf τ i
+unfolding valuesOf valuesTo
+values-at τ i fit l =
+    put-at (budgetOf τ) (replicate 16 (pos 0)) (τ .rows) (pos 0) (omega (arith, fit .few, length-replicate 16 (pos 0))) i l

@@ -1,8 +1,8 @@
 -- What an answer on a table means, for every slice of numbers (docs/SPECIFICATION.md §3, §4). Assumes nothing.
-use Prim.Native.Nat.{ℕ, _≤_, _<_}
+use Prim.Native.Nat.{ℕ, suc, _≤_, _<_}
 use mathlib.Core.Path.{_≡_, refl, sym, ap, _∙_}
 use mathlib.Core.Bool.{true, false, not, cond}
-use mathlib.Core.List.{List, []}
+use mathlib.Core.List.{List}
 use native.Mathlib.Omega.{arith}
 use lib.Dec.{ltb}
 use lib.ListN.{length}
@@ -16,12 +16,10 @@ use Rattle.edf.specs.Demand.{TaskSet, Feasible, demand, request, interference, 
 use Rattle.edf.specs.Arrivals.{Unservable}
 use Rattle.edf.specs.Overload.{overload}
 use Rattle.table.specs.Rows.{horizon, tasksOf, firstBroken, Fit, fit-of, fit-lawful}
-use Rattle.table.specs.Budgets.{budgetOf, loose, looseTo}
+use Rattle.table.specs.Budgets.{budgetOf, loose, looseTo, valuesOf}
 use Rattle.table.specs.Busy.{busyLength}
 use Rattle.table.specs.Verdict.{Answer, badLength, comparedTo, firstOverload, overloaded, settled, opinionOf, answerOf}
-use Rattle.table.specs.Assess.{shown, shownOf, Shows, Assessed, length-fit}
-use Rattle.table.specs.declared.Verdict.{Verdict}
-use Rattle.table.specs.declared.Verdict.the-variants.{Loose, Tight, Length, Row, Overload, Unsettled}
+use Rattle.table.specs.Assess.{shownOf, Shows, shows-of, Assessed, length-fit}
 use Rattle.table.specs.declared.Numbers.{Numbers}
 use Rattle.table.specs.declared.Assessment.{Assessment}
 
@@ -149,23 +147,44 @@ unsettled-means l t e = by (outcome l t) e
     by (isFit fit (isUnsettled a b)) z =
         (unsettled-fits (tasksOf l) fit a b, unsettled-long (tasksOf l) fit b)
 
+-- an admitted table's rows keep their rule
+pub answer-fit : (l : List ℕ) (t : ℕ) → answerOf l t .number ≡ 0 → Fit (tasksOf l)
+answer-fit l t e = by (outcome l t) e
+  where
+    by : {n : ℕ} → Outcome l n → n ≡ 0 → Fit (tasksOf l)
+    by isLength z = absurd (omega arith)
+    by isRow z = absurd (omega arith)
+    by (isFit fit o) z = fit
+
 -- an answer that is neither 1 nor 2 is on rows that keep their rule
 pub shown-fit : (l : List ℕ) (a : Assessment) (n : Numbers) → Assessed l a → Shows (a .verdict) n → (n .number ≡ 1 → ⊥) → (n .number ≡ 2 → ⊥) → Fit (tasksOf l)
-shown-fit l a n h s no1 no2 =
-    by (outcome l (shownOf a .first)) (λ e. no1 (s .number ∙ number-is ∙ e)) (λ e. no2 (s .number ∙ number-is ∙ e))
+shown-fit l a n h s no1 no2 = by (outcome l (shownOf a .first)) (λ e. no1 (number-is ∙ e)) (λ e. no2 (number-is ∙ e))
   where
-    same : (v : Verdict) → shown v [] .number ≡ shown v (a .budgets) .number
-    same (Loose n) = refl
-    same (Tight n) = refl
-    same (Length n) = refl
-    same (Row n) = refl
-    same (Overload t d) = refl
-    same Unsettled = refl
-
-    number-is : shown (a .verdict) [] .number ≡ answerOf l (shownOf a .first) .number
-    number-is = same (a .verdict) ∙ ap (λ (z : Answer). z .number) (h .answer)
+    number-is : n .number ≡ answerOf l (shownOf a .first) .number
+    number-is = ap (λ (z : Answer). z .number) (sym (shows-of a n s) ∙ h .answer)
 
     by : {m : ℕ} → Outcome l m → (m ≡ 1 → ⊥) → (m ≡ 2 → ⊥) → Fit (tasksOf l)
     by isLength p q = absurd (p refl)
     by isRow p q = absurd (q refl)
     by (isFit fit o) p q = fit
+
+-- an answer's number does not hang on the t that a refusal 3 names, and an admitted table's answer not at all
+pub answer-number : (l : List ℕ) (t u : ℕ) → answerOf l t .number ≡ answerOf l u .number
+unfolding answerOf opinionOf
+answer-number l t u =
+    both (badLength (length l)) (λ e. simp e)
+    (λ e. both (ltb (firstBroken (tasksOf l)) (tasksOf l .rows)) (λ f. simp (e, f))
+    (λ f. both (loose (tasksOf l)) (λ g. simp (e, f, g)) (λ g. both (overloaded (tasksOf l)) (λ h. simp (e, f, g, h)) (λ h. simp (e, f, g, h)))))
+
+pub answer-admitted : (l : List ℕ) (t u : ℕ) → answerOf l t .number ≡ 0
+    → (answerOf l t ≡ answerOf l u) × (answerOf l t .budgets ≡ valuesOf (tasksOf l))
+unfolding answerOf opinionOf
+answer-admitted l t u z =
+    both (badLength (length l)) (λ e. no (simp e at z))
+    (λ e. both (ltb (firstBroken (tasksOf l)) (tasksOf l .rows)) (λ f. no (simp (e, f) at z))
+    (λ f. both (loose (tasksOf l)) (λ g. (simp (e, f, g), simp (e, f, g)))
+    (λ g. both (overloaded (tasksOf l)) (λ h. no (simp (e, f, g, h) at z))
+    (λ h. both (settled (tasksOf l)) (λ k. (simp (e, f, g, h), simp (e, f, g, h, k))) (λ k. no (simp (e, f, g, h, k) at z))))))
+  where
+    no : {n : ℕ} → suc n ≡ 0 → (answerOf l t ≡ answerOf l u) × (answerOf l t .budgets ≡ valuesOf (tasksOf l))
+    no e = absurd (omega arith)

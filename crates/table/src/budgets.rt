@@ -69,7 +69,7 @@ pub fn magnitude(v: i64) -> u64
 }
 
 // V of row i: D, less C, less what the others can take until the deadline.
-fn budget(words: &[u32], i: usize) -> i64
+pub fn budget(words: &[u32], i: usize) -> i64
     requires { ⌜ Fit (tasksOf (now words)) × (i < tasksOf (now words) .rows) ⌝ }
     ensures { λ r. ⌜ r ≡ budgetOf (tasksOf (now (words .entry))) i ⌝ }
 {

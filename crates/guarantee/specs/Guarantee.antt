@@ -1,0 +1,35 @@
+-- The guarantee (docs/SPECIFICATION.md §6.2): the theorems of Statement.antt, but for the two that Keeps.antt has.
+-- Assumes nothing.
+use Prim.Native.Nat.{ℕ}
+use mathlib.Core.Path.{_≡_}
+use mathlib.Core.List.{List, [], _∷_}
+use Rattle.table.specs.Rows.{tasksOf}
+use Rattle.table.specs.Theorems as tables
+use Rattle.session.specs.declared.Session.{Session}
+use Rattle.session.specs.Admit.{sessionOf}
+use Rattle.guarantee.specs.Ledger.{Call, Ledger, empty, ledgerFrom}
+use Rattle.guarantee.specs.Statement.{outcomeOf, sessionAfter, eventsOf, NoJobLate, OverloadDeserved}
+use Rattle.guarantee.specs.Good.{Good}
+use Rattle.guarantee.specs.KeepsFresh.{good-fresh}
+use Rattle.guarantee.specs.Keeps.{good-call, good-reached}
+use Rattle.guarantee.specs.Ties.{Tied, tied-fresh, tied-call, tied-timely}
+
+-- the ledger follows the session over a list of calls
+tied-after : (l : List ℕ) (g : Ledger) (s : Session) → Good l s → Tied l g s → (calls : List Call)
+    → Tied l (ledgerFrom (tasksOf l) g (eventsOf s calls)) (sessionAfter s calls)
+unfolding ledgerFrom eventsOf sessionAfter
+tied-after l g s good tied [] = tied
+tied-after l g s good tied (c ∷ calls) =
+    tied-after l _ (outcomeOf s c .session) (good-call l s good c) (tied-call l g s good tied c) calls
+
+-- NO JOB IS LATE
+pub no-job-late : NoJobLate
+no-job-late l t e calls =
+    tied-timely l _ _ (good-reached l t e calls) (tied-after l empty (sessionOf l t) (good-fresh l t e) (tied-fresh l t e) calls)
+
+pub overload-deserved : OverloadDeserved
+overload-deserved = tables.overload-deserved
+
+-- the same call on the same session gives the same answer and leaves the same session
+pub deterministic : (s s′ : Session) (c c′ : Call) → s ≡ s′ → c ≡ c′ → outcomeOf s c ≡ outcomeOf s′ c′
+deterministic s s′ c c′ e f = cc

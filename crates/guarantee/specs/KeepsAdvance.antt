@@ -1,0 +1,251 @@
+-- An advance keeps a session good (docs/SPECIFICATION.md §5.5). Assumes nothing.
+use Prim.Native.Nat.{ℕ, _+_, _-_, _≤_, _<_}
+use mathlib.Core.Path.{_≡_, refl, sym, ap, _∙_}
+use mathlib.Core.Bool.{true, false, true≢false}
+use mathlib.Core.Logic.{dite, _⊎_, inl, inr, ⊎-elim}
+use native.Mathlib.Omega.{arith}
+use native.Mathlib.Decide.{decLt, ℕ-discrete}
+use lib.Dec.{ltb, eqb}
+use borrow.Author.Tests.{eqb-true, eqb-false, ltb-true, ltb-false, lt-ltb, eq-eqb, ne-eqb}
+use Rattle.bounded.specs.Tests.{both}
+use Rattle.bounded.specs.Fold.{put-length, put-at}
+use Rattle.edf.specs.State.{Same, Head}
+use Rattle.edf.specs.Steps.{Run, Idle}
+use Rattle.edf.specs.Safe.{Step, Earliest}
+use Rattle.session.specs.declared.Job.{Job}
+use Rattle.session.specs.declared.Session.{Session}
+use Rattle.session.specs.Reading.{idle, clockEnd, noJob, jobAt, rowsOf, tasks, waits, ahead, stateOf}
+use Rattle.session.specs.Calls.{changed, agedJob, agedJobs, advanceIn}
+use Rattle.session.specs.Facts.{Running, Choice}
+use Rattle.guarantee.specs.Good.{SafeAs, Good}
+use Rattle.guarantee.specs.KeepsTable.{start-tight}
+use Rattle.guarantee.specs.KeepsSound.{in-force, ahead-waits, ahead-earlier, earlier-ahead, idle-ahead, later-not}
+use Rattle.guarantee.specs.KeepsStep.{as-step, Bounds, good-facts, good-bounds, good-changed}
+
+-- ---- one row
+
+-- a is row i's job after n ticks in which it did not run
+pub record Passed (s : Session) (n i : ℕ) (a : Job) : Type 0 where
+  pub next : a .next ≡ jobAt s i .next
+  pub due : a .due ≡ jobAt s i .due
+  pub left : a .left ≡ jobAt s i .left
+  pub loses : ahead s (s .chosen) i ≡ true → a .budget ≡ jobAt s i .budget - n
+  pub stays : ahead s (s .chosen) i ≡ false → a .budget ≡ jobAt s i .budget
+
+-- a is row i's job after n ticks in which it ran
+pub record Worked (s : Session) (n i : ℕ) (a : Job) : Type 0 where
+  pub next : a .next ≡ jobAt s i .next
+  pub left : a .left ≡ jobAt s i .left - n
+  pub due : 0 < a .left → a .due ≡ jobAt s i .due
+  pub budget : 0 < a .left → a .budget ≡ jobAt s i .budget
+
+pub aged-passed : (s : Session) (n i : ℕ) → ¬ (i ≡ s .chosen) → Passed s n i (agedJob s n i)
+unfolding agedJob
+aged-passed s n i ne =
+    both (ahead s (s .chosen) i)
+    (λ e. simp (ne-eqb i (s .chosen) ne, e)
+    (record { next = refl; due = refl; left = refl; loses = λ h. refl; stays = λ h. absurd (true≢false (sym e ∙ h)) }))
+    (λ e. simp (ne-eqb i (s .chosen) ne, e)
+    (record { next = refl; due = refl; left = refl; loses = λ h. absurd (true≢false (sym h ∙ e)); stays = λ h. refl }))
+
+pub aged-worked : (s : Session) (n i : ℕ) → i ≡ s .chosen → Worked s n i (agedJob s n i)
+unfolding agedJob
+aged-worked s n i e =
+    both (eqb (jobAt s i .left) n)
+    (λ f. simp (eq-eqb i (s .chosen) e, f)
+    (record {
+      next = refl;
+      left = omega (arith, eqb-true (jobAt s i .left) n f);
+      due = λ h. absurd (omega arith);
+      budget = λ h. absurd (omega arith);
+    }))
+    (λ f. simp (eq-eqb i (s .chosen) e, f) (record { next = refl; left = refl; due = λ h. refl; budget = λ h. refl }))
+
+-- ---- n ticks of a choice in force
+
+module _ (s : Session) (g : Good (rowsOf s) s) (ch : Choice s) (n : ℕ) (some : 1 ≤ n) (within : n ≤ s .span) (c : ℕ) where
+  abbrev after : Session
+  after = changed s (s .clock + n) (agedJobs s n (s .count)) c (s .span - n)
+
+  known : (i : ℕ) → i < tasks s .rows → i < s .count
+  known i l = omega (arith, g .count)
+
+  is : (i : ℕ) → i < s .count → jobAt after i ≡ agedJob s n i
+  unfolding agedJobs
+  is i l = put-at (agedJob s n) (s .jobs) (s .count) noJob (omega (arith, g .places, good-facts s g .few)) i l
+
+  passed : (i : ℕ) → i < s .count → ¬ (i ≡ s .chosen) → Passed s n i (jobAt after i)
+  passed i l ne = rw (is i l) (aged-passed s n i ne)
+
+  worked : (i : ℕ) → i < s .count → i ≡ s .chosen → Worked s n i (jobAt after i)
+  worked i l e = rw (is i l) (aged-worked s n i e)
+
+  same : (i : ℕ) → i < s .count → ¬ (i ≡ s .chosen) → Same (stateOf s) (stateOf after) i
+  unfolding waits
+  same i l ne = let p = passed i l ne in record { next = p .next; due = p .due; left = p .left; waits = ap (ltb 0) (p .left) }
+
+  -- each job that loses budget has enough of it
+  pays : (i : ℕ) → i < s .count → ¬ (i ≡ s .chosen) → ahead s (s .chosen) i ≡ true → jobAt after i .budget + n ≡ jobAt s i .budget
+  pays i l ne a = omega (arith, passed i l ne .loses a, ch .affords i l a)
+
+  -- in a tight session no job has any, so none loses budget
+  tight-none : s .kind ≡ 2 → (i : ℕ) → i < s .count → ahead s (s .chosen) i ≡ true → ⊥
+  tight-none k i l a =
+      omega (
+        arith,
+        ch .affords i l a,
+        good-bounds s g i l .budget (ahead-waits s (s .chosen) i a),
+        start-tight (tasks s) (s .kind) k i,
+      )
+
+  -- ---- a row runs
+
+  module _ (r : Running s) where
+    run-step : Run (tasks s) (s .chosen) n (stateOf s) (stateOf after)
+    unfolding waits
+    run-step = let w = worked (s .chosen) (r .known) refl in record {
+      row = omega (arith, r .known, g .count);
+      waiting = r .waiting;
+      within = omega (arith, r .within);
+      clock = refl;
+      next = w .next;
+      due = λ h. w .due (ltb-true 0 _ h);
+      left = w .left;
+      budget = λ h. w .budget (ltb-true 0 _ h);
+      waits = ap (ltb 0) (w .left);
+      others = λ i l. same i (known i l);
+      earlier = λ i l ne v h. pays i (known i l) ne (earlier-ahead s (s .chosen) i v h);
+      later = λ i l ne v h. passed i (known i l) ne .stays
+          (later-not s (s .chosen) i (λ e. omega (arith, r .known, good-facts s g .few)) h);
+    }
+
+    tight-head : s .kind ≡ 2 → Head (tasks s) (stateOf s) (s .chosen)
+    tight-head k i l w =
+        dite (decLt (jobAt s i .due) (jobAt s (s .chosen) .due))
+        (λ h. absurd (tight-none k i (known i l) (earlier-ahead s (s .chosen) i w h))) (λ h. omega arith)
+
+    run-safe : SafeAs (tasks s) (stateOf after) (s .kind)
+    run-safe =
+        as-step (tasks s) (g .fit) (g .feasible) (stateOf s) (stateOf after) (g .safe)
+        (λ e. Step.ran (s .chosen) n run-step) (λ e. Earliest.ran (s .chosen) n run-step (tight-head e))
+
+  -- ---- nothing runs
+
+  module _ (none : s .chosen ≡ idle) where
+    other : (i : ℕ) → i < s .count → ¬ (i ≡ s .chosen)
+    other i l e = omega (arith, good-facts s g .few)
+
+    idle-step : Idle (tasks s) n (stateOf s) (stateOf after)
+    idle-step = record {
+      clock = refl;
+      others = λ i l. same i (known i l) (other i (known i l));
+      budgets = λ i l w. pays i (known i l) (other i (known i l)) (idle-ahead s (s .chosen) i none w);
+    }
+
+    tight-idle : s .kind ≡ 2 → (i : ℕ) → i < tasks s .rows → waits s i ≡ false
+    tight-idle k i l =
+        both (waits s i) (λ w. absurd (tight-none k i (known i l) (idle-ahead s (s .chosen) i none w))) (λ w. w)
+
+    idle-safe : SafeAs (tasks s) (stateOf after) (s .kind)
+    idle-safe =
+        as-step (tasks s) (g .fit) (g .feasible) (stateOf s) (stateOf after) (g .safe)
+        (λ e. Step.idled n idle-step) (λ e. Earliest.idled n idle-step (tight-idle e))
+
+  -- ---- soundness
+
+  -- no earliest next arrival changes, no job begins to wait, and no waiting job gains budget
+  bounds : (i : ℕ) → i < s .count → Bounds (tasks s) after i
+  unfolding waits
+  bounds i l =
+      let f = good-bounds s g i l in
+      dite (ℕ-discrete i (s .chosen))
+      (λ e.
+      let w = worked i l e in
+      record {
+        next = omega (arith, w .next, f .next);
+        budget = λ h.
+            let k = ltb-true 0 (jobAt after i .left) h in
+            omega (arith, w .budget k, f .budget (lt-ltb 0 (jobAt s i .left) (omega (arith, w .left))));
+      })
+      (λ ne.
+      let p = passed i l ne in
+      record {
+        next = omega (arith, p .next, f .next);
+        budget = λ h.
+            let k = ltb-true 0 (jobAt after i .left) h in
+            let b = f .budget (lt-ltb 0 (jobAt s i .left) (omega (arith, p .left))) in
+            both (ahead s (s .chosen) i) (λ a. omega (arith, p .loses a)) (λ a. omega (arith, p .stays a));
+      })
+
+  advance-good : s .clock + n ≤ clockEnd → (s .span - n ≡ 0) ⊎ Choice after → Good (rowsOf s) after
+  unfolding agedJobs
+  advance-good end choice =
+      good-changed s g (s .clock + n) (agedJobs s n (s .count)) c (s .span - n)
+      (put-length (agedJob s n) (s .jobs) (s .count) ∙ g .places) end (⊎-elim idle-safe run-safe (ch .runs)) bounds choice
+
+-- ---- the choice, where its span is not used up
+
+module _ (s : Session) (g : Good (rowsOf s) s) (ch : Choice s) (n : ℕ) (some : 1 ≤ n) (more : n < s .span) where
+  abbrev later : Session
+  later = after s g ch n some (omega arith) (s .chosen)
+
+  ran : (r : Running s) → Worked s n (s .chosen) (jobAt later (s .chosen))
+  ran r = worked s g ch n some (omega arith) (s .chosen) (s .chosen) (r .known) refl
+
+  rest : (i : ℕ) → i < s .count → ¬ (i ≡ s .chosen) → Same (stateOf s) (stateOf later) i
+  rest = same s g ch n some (omega arith) (s .chosen)
+
+  runs-still : (s .chosen ≡ idle) ⊎ Running s → (s .chosen ≡ idle) ⊎ Running later
+  unfolding waits
+  runs-still (inl e) = inl e
+  runs-still (inr r) =
+      let w = ran r in
+      inr (record {
+        known = r .known;
+        waiting = lt-ltb 0 (jobAt later (s .chosen) .left) (omega (arith, w .left, r .within));
+        within = omega (arith, w .left, r .within);
+      })
+
+  -- a job that loses budget from now on is not the chosen one, and has lost budget so far
+  ahead-still : (s .chosen ≡ idle) ⊎ Running s → (j : ℕ) → j < s .count → ahead later (s .chosen) j ≡ true
+      → (¬ (j ≡ s .chosen)) × (ahead s (s .chosen) j ≡ true)
+  ahead-still (inl e) j l a =
+      let ne : ¬ (j ≡ s .chosen) = λ x. omega (arith, good-facts s g .few) in
+      (ne, idle-ahead s (s .chosen) j e (sym (rest j l ne .waits) ∙ ahead-waits later (s .chosen) j a))
+  ahead-still (inr r) j l a =
+      let d = ahead-earlier later (s .chosen) j (λ e. omega (arith, r .known, good-facts s g .few)) a in
+      let ne : ¬ (j ≡ s .chosen) = λ x. omega (arith, ap (λ (z : ℕ). jobAt later z .due) x) in
+      let e = rest j l ne in
+      let w = ran r in
+      let f = w .due (omega (arith, w .left, r .within)) in
+      (ne, earlier-ahead s (s .chosen) j (sym (e .waits) ∙ ahead-waits later (s .chosen) j a) (omega (arith, e .due)))
+
+  choice-still : Choice later
+  choice-still = record {
+    some = omega arith;
+    small = omega (arith, ch .small);
+    runs = runs-still (ch .runs);
+    affords = λ j l a.
+        let b = ahead-still (ch .runs) j l a in
+        omega (arith, pays s g ch n some (omega arith) (s .chosen) j l (b .0) (b .1), ch .affords j l (b .1));
+  }
+
+pub good-advance : (s : Session) → Good (rowsOf s) s → (n : ℕ) → Good (rowsOf s) (advanceIn s n .session)
+unfolding advanceIn
+good-advance s g n =
+    both (eqb (s .span) 0) (λ a. simp a g)
+    (λ a. both (eqb n 0) (λ b. simp (a, b) g)
+    (λ b. both (ltb (s .span) n) (λ d. simp (a, b, d) g)
+    (λ d. both (ltb clockEnd (s .clock + n)) (λ e. simp (a, b, d, e) g)
+    (λ e.
+    let ch = in-force s (g .sound) a in
+    let low : 1 ≤ n = omega (arith, eqb-false n 0 b) in
+    let high = ltb-false (s .span) n d in
+    let end = ltb-false clockEnd (s .clock + n) e in
+    both (eqb (s .span) n)
+    (λ f.
+    let u = eqb-true (s .span) n f in
+    simp (a, b, d, e, f) (advance-good s g ch n low high 0 end (inl (omega arith))))
+    (λ f.
+    let u = eqb-false (s .span) n f in
+    simp (a, b, d, e, f) (advance-good s g ch n low high (s .chosen) end (inr (choice-still s g ch n low (omega arith)))))))))

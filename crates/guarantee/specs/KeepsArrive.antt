@@ -1,0 +1,61 @@
+-- An arrival keeps a session good (docs/SPECIFICATION.md §5.3). Assumes nothing.
+use Prim.Native.Nat.{ℕ, _+_, _≤_, _<_}
+use mathlib.Core.Path.{_≡_, refl, ap, _∙_}
+use mathlib.Core.Logic.{⊎-elim}
+use native.Mathlib.Omega.{arith}
+use lib.Dec.{leb, ltb}
+use borrow.Author.Tests.{leb-false, ltb-false, lt-ltb}
+use Rattle.bounded.specs.Tests.{both}
+use Rattle.edf.specs.Demand.{interference}
+use Rattle.edf.specs.Steps.{Arrive}
+use Rattle.edf.specs.Safe.{Step, Earliest}
+use Rattle.session.specs.declared.Job.{Job}
+use Rattle.session.specs.declared.Session.{Session}
+use Rattle.session.specs.Reading.{jobAt, rowsOf, tasks, waits, startBudget, stateOf}
+use Rattle.session.specs.Calls.{arrivedJob, arriveIn}
+use Rattle.guarantee.specs.Good.{Good}
+use Rattle.guarantee.specs.KeepsTable.{start-loose, start-tight}
+use Rattle.guarantee.specs.KeepsStep.{as-step, good-kind, withJob, set-at, set-other, set-others, good-set}
+
+module _ (s : Session) (g : Good (rowsOf s) s) (k : ℕ) (row : k < s .count) (ready : jobAt s k .next ≤ s .clock) where
+  abbrev after : Session
+  after = withJob s g k row (arrivedJob s k)
+
+  known : k < tasks s .rows
+  known = omega (arith, g .count)
+
+  is : jobAt after k ≡ arrivedJob s k
+  is = set-at s g k row (arrivedJob s k)
+
+  arrive-step : (b : ℕ) → startBudget (s .kind) (tasks s) k ≡ b → Arrive (tasks s) k b (stateOf s) (stateOf after)
+  unfolding waits
+  arrive-step b e = record {
+    row = known;
+    ready = ready;
+    clock = refl;
+    next = ap (λ (j : Job). j .next) is;
+    due = ap (λ (j : Job). j .due) is;
+    left = ap (λ (j : Job). j .left) is;
+    budget = ap (λ (j : Job). j .budget) is ∙ e;
+    waits = ap (λ (j : Job). ltb 0 (j .left)) is ∙ lt-ltb 0 (tasks s .C k) (g .fit .row k known .cost);
+    others = set-others s g k row (arrivedJob s k);
+    budgets = λ i l ne. ap (λ (j : Job). j .budget) (set-other s g k row (arrivedJob s k) i ne);
+  }
+
+  -- in a loose session the budget is V
+  within : s .kind ≡ 1 → startBudget (s .kind) (tasks s) k + tasks s .C k + interference (tasks s) k (tasks s .D k) ≤ tasks s .D k
+  within e = ⊎-elim (λ c. start-loose (tasks s) (s .kind) e (c .1) k known) (λ c. absurd (omega arith)) (good-kind s g)
+
+  arrive-good : Good (rowsOf s) after
+  arrive-good =
+      good-set s g k row (arrivedJob s k) (omega arith) (omega arith)
+      (as-step (tasks s) (g .fit) (g .feasible) (stateOf s) (stateOf after) (g .safe)
+      (λ e. Step.arrived k (startBudget (s .kind) (tasks s) k) (arrive-step _ refl) (within e))
+      (λ e. Earliest.arrived k (arrive-step 0 (start-tight (tasks s) (s .kind) e k))))
+
+pub good-arrive : (s : Session) → Good (rowsOf s) s → (k : ℕ) → Good (rowsOf s) (arriveIn s k .session)
+unfolding arriveIn
+good-arrive s g k =
+    both (leb (s .count) k) (λ a. simp a g)
+    (λ a. both (ltb (s .clock) (jobAt s k .next)) (λ b. simp (a, b) g)
+    (λ b. simp (a, b) (arrive-good s g k (leb-false (s .count) k a) (ltb-false _ _ b))))

@@ -1,0 +1,117 @@
+-- The fresh session of an admitted table is good (docs/SPECIFICATION.md §5.1). Assumes nothing.
+use Prim.Native.Nat.{ℕ, _*_, _/_, _%_, _≤_, _<_}
+use mathlib.Core.Path.{_≡_, refl, sym, ap, _∙_}
+use mathlib.Core.Bool.{Bool, true, false, _||_, true≢false}
+use mathlib.Core.List.{List}
+use mathlib.Core.Logic.{inl}
+use native.Mathlib.Omega.{arith}
+use lib.Dec.{ltb, eqb}
+use lib.ListN.{length, getD, take, replicate, length-take, length-replicate, getD-replicate}
+use lib.Seq.{getD-take, ext-getD}
+use borrow.Author.Tests.{eq-eqb, eqb-true, ltb-false, not-false}
+use Rattle.bounded.specs.Fold.{put-length, put-at}
+use Rattle.edf.specs.Steps.{Start}
+use Rattle.table.specs.Rows.{tasksOf, Fit}
+use Rattle.table.specs.Verdict.{Answer, badLength, answerOf}
+use Rattle.table.specs.Theorems.{answer-fit, answer-admitted, admitted-fits}
+use Rattle.session.specs.declared.Job.{Job}
+use Rattle.session.specs.declared.Session.{Session}
+use Rattle.session.specs.Reading.{noJob, jobAt, rowsOf, waits, stateOf}
+use Rattle.session.specs.Admit.{wordsTo, freshOf, sessionOf}
+use Rattle.session.specs.Facts.{Facts}
+use Rattle.guarantee.specs.Good.{Good}
+use Rattle.guarantee.specs.KeepsTable.{answer-length, answer-kind}
+use Rattle.guarantee.specs.KeepsSound.{sound-of}
+use Rattle.guarantee.specs.KeepsStep.{as-start}
+
+-- ---- the rows
+
+or-false : (a b : Bool) → (a || b) ≡ false → (a ≡ false) × (b ≡ false)
+or-false true b e = absurd (true≢false e)
+or-false false b e = (refl, e)
+
+-- a table's numbers are 48 at most, three to a row
+length-rows : (n : ℕ) → badLength n ≡ false → (n ≤ 48) × (3 * (n / 3) ≡ n)
+unfolding badLength
+length-rows n e =
+    let a = or-false (eqb n 0 || ltb 48 n) _ e in
+    let b = or-false (eqb n 0) _ (a .0) in
+    let c : n % 3 ≡ 0 = eqb-true (n % 3) 0 (not-false _ (a .1)) in
+    (ltb-false 48 n (b .1), omega arith)
+
+-- a session of such a table holds its rows
+fresh-rows : (l : List ℕ) (kind : ℕ) → badLength (length l) ≡ false → rowsOf (freshOf l kind) ≡ l
+unfolding rowsOf freshOf wordsTo
+fresh-rows l kind e =
+    ext-getD 0 (take (3 * (length l / 3)) (wordsTo l (length l))) l whole
+    (λ i u.
+    getD-take (3 * (length l / 3)) (wordsTo l (length l)) i 0 (omega (arith, n, whole))
+    ∙ put-at (λ i. getD l i 0) (replicate 48 0) (length l) 0 (omega (arith, n)) i (omega (arith, whole)))
+  where
+    n : (length l ≤ 48) × (3 * (length l / 3) ≡ length l)
+    n = length-rows (length l) e
+
+    whole : length (take (3 * (length l / 3)) (wordsTo l (length l))) ≡ length l
+    whole =
+        omega (
+          arith,
+          n,
+          length-take (3 * (length l / 3)) (wordsTo l (length l)),
+          put-length (λ i. getD l i 0) (replicate 48 0) (length l),
+        )
+
+-- ---- the session
+
+module _ (l : List ℕ) (t : ℕ) (e : answerOf l t .number ≡ 0) where
+  abbrev fresh : Session
+  fresh = freshOf l (answerOf l t .first)
+
+  fit : Fit (tasksOf l)
+  fit = answer-fit l t e
+
+  rows : rowsOf fresh ≡ l
+  rows = fresh-rows l (answerOf l t .first) (answer-length l t e)
+
+  -- the answer is the one that soundness looks at
+  answer : answerOf (rowsOf fresh) 0 ≡ answerOf l t
+  answer = rw rows (sym (answer-admitted l t 0 e .0))
+
+  fresh-job : (i : ℕ) → i < tasksOf l .rows → jobAt fresh i ≡ noJob
+  unfolding freshOf
+  fresh-job i u = getD-replicate 16 i noJob noJob (omega (arith, fit .few))
+
+  fresh-start : Start (tasksOf l) (stateOf fresh)
+  unfolding freshOf waits
+  fresh-start = record {
+    clock = refl;
+    next = λ i u. ap (λ (j : Job). j .next) (fresh-job i u);
+    waits = λ i u. ap (λ (j : Job). ltb 0 (j .left)) (fresh-job i u);
+  }
+
+  fresh-facts : Facts fresh
+  unfolding freshOf tasksOf
+  fresh-facts = record {
+    few = fit .few;
+    admitted = ap (λ (a : Answer). a .number) answer ∙ e;
+    kind = ap (λ (a : Answer). a .first) answer;
+    clock = omega arith;
+    next = λ i u. omega (arith, fresh-start .next i u);
+    job = λ i u w. absurd (true≢false (sym w ∙ fresh-start .waits i u));
+    choice = inl refl;
+  }
+
+  fresh-good : Good l fresh
+  unfolding freshOf tasksOf
+  fresh-good = record {
+    fit = fit;
+    feasible = admitted-fits l t e;
+    rows = rows;
+    count = refl;
+    places = length-replicate 16 noJob;
+    sound = sound-of fresh fresh-facts;
+    safe = as-start (tasksOf l) fit (admitted-fits l t e) (stateOf fresh) (answerOf l t .first) (answer-kind l t e) fresh-start;
+  }
+
+pub good-fresh : (l : List ℕ) (t : ℕ) → answerOf l t .number ≡ 0 → Good l (sessionOf l t)
+unfolding sessionOf
+good-fresh l t e = simp (eq-eqb (answerOf l t .number) 0 e) (fresh-good l t e)

@@ -1,0 +1,187 @@
+-- The head of a session, and that what is chosen may run for a tick at least (docs/SPECIFICATION.md §5.4).
+-- Assumes nothing.
+use Prim.Native.Nat.{ℕ, zero, suc, _≤_, _<_}
+use mathlib.Core.Path.{_≡_, refl, sym, _∙_}
+use mathlib.Core.Bool.{true, false, not, _&&_, _||_, true≢false}
+use mathlib.Core.List.{List}
+use mathlib.Core.Logic.{dite, _⊎_, inl, inr, ⊎-elim}
+use native.Mathlib.Omega.{arith}
+use native.Mathlib.Decide.{decLt, ℕ-discrete}
+use lib.Dec.{ltb, eqb}
+use lib.ListN.{getD}
+use borrow.Author.Tests.{eqb-true, ltb-true, ltb-false, lt-ltb, le-ltb, ne-eqb}
+use Rattle.bounded.specs.Tests.{both, and-true, and-both, so-then}
+use Rattle.bounded.specs.All.{all-at, all-of}
+use Rattle.bounded.specs.Least.{least-at, least-before}
+use Rattle.session.specs.declared.Session.{Session}
+use Rattle.session.specs.Reading.{idle, jobAt, waits, ahead}
+use Rattle.session.specs.Order.{before, isHead, headOf, permits, candidate, candidates, position, rowWith, candidateAt}
+use Rattle.session.specs.Choose.{draw, drawn, pickOf}
+use Rattle.session.specs.Calls.{changed}
+use Rattle.session.specs.Facts.{Choice}
+use Rattle.guarantee.specs.KeepsSound.{ahead-waits, ahead-earlier}
+
+-- ---- the first in order
+
+-- of the first n rows, i is the first in order that waits
+record First (s : Session) (n i : ℕ) : Type 0 where
+  row : i < n
+  waiting : waits s i ≡ true
+  least : (j : ℕ) → j < n → waits s j ≡ true → jobAt s i .due ≤ jobAt s j .due
+  first : (j : ℕ) → j < i → waits s j ≡ true → jobAt s i .due < jobAt s j .due
+
+abbrev NoneWaits : Session → ℕ → Type 0
+NoneWaits s n = (j : ℕ) → j < n → waits s j ≡ false
+
+-- it is so of one row more, where row n is not earlier
+first-same : (s : Session) (n i : ℕ) → First s n i → (waits s n ≡ true → jobAt s i .due ≤ jobAt s n .due) → First s (suc n) i
+first-same s n i f h = record {
+  row = omega (arith, f .row);
+  waiting = f .waiting;
+  least = λ j u w. dite (ℕ-discrete j n)
+      (λ e. let v : waits s n ≡ true = rw e at w in rw e (h v))
+      (λ ne. f .least j (omega arith) w);
+  first = f .first;
+}
+
+-- row n is, where it is earlier than each of them
+first-new : (s : Session) (n : ℕ) → waits s n ≡ true
+    → ((j : ℕ) → j < n → waits s j ≡ true → jobAt s n .due < jobAt s j .due) → First s (suc n) n
+first-new s n w h = record {
+  row = omega arith;
+  waiting = w;
+  least = λ j u v. dite (ℕ-discrete j n) (λ e. rw e (omega arith)) (λ ne. omega (arith, h j (omega arith) v));
+  first = h;
+}
+
+none-more : (s : Session) (n : ℕ) → NoneWaits s n → waits s n ≡ false → NoneWaits s (suc n)
+none-more s n h e j u = dite (ℕ-discrete j n) (λ q. rw q e) (λ q. h j (omega arith))
+
+first-of : (s : Session) (n : ℕ) → ((i : ℕ) × First s n i) ⊎ NoneWaits s n
+first-of s zero = inr (λ j u. absurd (omega arith))
+first-of s (suc n) =
+    ⊎-elim
+    (λ (p : (i : ℕ) × First s n i).
+    let i = p .0 in
+    let f = p .1 in
+    dite (decLt (jobAt s n .due) (jobAt s i .due))
+    (λ h. both (waits s n)
+    (λ w. inl (n, first-new s n w (λ j u v. omega (arith, f .least j u v))))
+    (λ w. inl (i, first-same s n i f (λ v. absurd (true≢false (sym v ∙ w))))))
+    (λ h. inl (i, first-same s n i f (λ v. omega arith))))
+    (λ (none : NoneWaits s n). both (waits s n)
+    (λ w. inl (n, first-new s n w (λ j u v. absurd (true≢false (sym v ∙ none j u)))))
+    (λ w. inr (none-more s n none w)))
+    (first-of s n)
+
+-- ---- the head
+
+first-head : (s : Session) (i : ℕ) → First s (s .count) i → isHead s i ≡ true
+unfolding isHead before
+first-head s i f =
+    and-both (waits s i) _ (f .waiting)
+    (all-of (λ j. not (waits s j && before s j i)) (s .count)
+    (λ j u. both (waits s j)
+    (λ w. simp (w, le-ltb (jobAt s j .due) (jobAt s i .due) (f .least j u w))
+    (dite (decLt j i)
+    (λ h. simp (ne-eqb (jobAt s j .due) (jobAt s i .due) (λ e. omega (arith, f .first j h w))))
+    (λ h. simp (le-ltb j i (omega arith)) (both (eqb (jobAt s j .due) (jobAt s i .due)) (λ e. simp e) (λ e. simp e)))))
+    (λ w. simp w)))
+
+module _ (s : Session) where
+  -- where there is no head, nothing waits
+  none-waits : s .count ≤ headOf s → NoneWaits s (s .count)
+  unfolding headOf
+  none-waits h =
+      ⊎-elim
+      (λ (p : (i : ℕ) × First s (s .count) i).
+      absurd
+      (true≢false
+      (sym (first-head s (p .0) (p .1)) ∙ least-before (isHead s) 0 (s .count) (p .0) (omega arith) (omega (arith, p .1 .row)))))
+      (λ none. none)
+      (first-of s (s .count))
+
+  is-head : headOf s < s .count → isHead s (headOf s) ≡ true
+  unfolding headOf
+  is-head h = least-at (isHead s) 0 (s .count) (omega arith)
+
+  -- the head waits, and no waiting job has an earlier deadline
+  head-waits : headOf s < s .count → waits s (headOf s) ≡ true
+  unfolding isHead
+  head-waits h = and-true (waits s (headOf s)) _ (is-head h) .0
+
+  head-least : headOf s < s .count → (j : ℕ) → j < s .count → waits s j ≡ true → jobAt s (headOf s) .due ≤ jobAt s j .due
+  unfolding isHead before
+  head-least h j u w =
+      let a = and-true (waits s (headOf s)) _ (is-head h) .1 in
+      let b : not (before s j (headOf s)) ≡ true = simp w at (all-at (λ j. not (waits s j && before s j (headOf s))) (s .count) a j u) in
+      dite (decLt (jobAt s j .due) (jobAt s (headOf s) .due))
+      (λ k. absurd (true≢false (sym b ∙ simp (lt-ltb (jobAt s j .due) (jobAt s (headOf s) .due) k))))
+      (λ k. omega arith)
+
+-- ---- what is chosen
+
+-- c may be chosen for n ticks
+abbrev pub May : Session → ℕ → ℕ → Type 0
+May s c n = Choice (changed s (s .clock) (s .jobs) c n)
+
+module _ (s : Session) (few : s .count ≤ 16) where
+  row-may : (c : ℕ) → c < s .count → waits s c ≡ true
+      → ((j : ℕ) → j < s .count → ahead s c j ≡ true → 1 ≤ jobAt s j .budget) → May s c 1
+  unfolding waits ahead
+  row-may c l w h = record {
+    some = omega arith;
+    small = omega arith;
+    runs = inr (record { known = l; waiting = w; within = ltb-true 0 (jobAt s c .left) w });
+    affords = h;
+  }
+
+  idle-may : ((j : ℕ) → j < s .count → ahead s idle j ≡ true → 1 ≤ jobAt s j .budget) → May s idle 1
+  unfolding waits ahead
+  idle-may h = record { some = omega arith; small = omega arith; runs = inl refl; affords = h }
+
+  permits-at : (c : ℕ) → permits s c ≡ true → (j : ℕ) → j < s .count → ahead s c j ≡ true → 1 ≤ jobAt s j .budget
+  unfolding permits
+  permits-at c h j l a =
+      ltb-true 0 (jobAt s j .budget)
+      (so-then (ahead s c j) _ (all-at (λ j. not (ahead s c j) || ltb 0 (jobAt s j .budget)) (s .count) h j l) a)
+
+  -- no job loses budget while the head runs
+  head-may : headOf s < s .count → May s (headOf s) 1
+  head-may h =
+      row-may (headOf s) h (head-waits s h)
+      (λ j l a. absurd
+      (omega (arith, head-least s h j l (ahead-waits s (headOf s) j a), ahead-earlier s (headOf s) j (λ e. omega arith) a)))
+
+  candidate-may : headOf s < s .count → (c : ℕ) → c < s .count → candidate s c ≡ true → May s c 1
+  unfolding candidate
+  candidate-may h c l e =
+      let a = and-true (waits s c) _ e in
+      both (eqb c (headOf s)) (λ q. rw (eqb-true c (headOf s) q) (head-may h))
+      (λ q.
+      let b : (ltb 0 (jobAt s (headOf s) .budget) && permits s c) ≡ true = simp q at (a .1) in
+      row-may c l (a .0) (permits-at c (and-true (ltb 0 (jobAt s (headOf s) .budget)) _ b .1)))
+
+  at-may : headOf s < s .count → (k : ℕ) → May s (candidateAt s k) 1
+  unfolding candidateAt rowWith
+  at-may h k =
+      both (ltb (rowWith s k) (s .count))
+      (λ a.
+      let l = ltb-true (rowWith s k) (s .count) a in
+      let b = least-at (λ i. candidate s i && eqb (position s i) k) 0 (s .count) (omega arith) in
+      simp a (candidate-may h (rowWith s k) l (and-true (candidate s (rowWith s k)) _ b .0)))
+      (λ a. both (permits s idle) (λ b. simp (a, b) (idle-may (permits-at idle b))) (λ b. simp (a, b) (head-may h)))
+
+  drawn-head : (w : List ℕ) → drawn s w ≡ true → headOf s < s .count
+  unfolding drawn
+  drawn-head w e = ltb-true (headOf s) (s .count) (and-true (ltb (headOf s) (s .count)) _ e .0)
+
+  pub pick-may : (w : List ℕ) → May s (pickOf s w) 1
+  unfolding pickOf
+  pick-may w =
+      both (drawn s w) (λ a. simp a (at-may (drawn-head w a) (draw (getD w 0 0) (candidates s))))
+      (λ a. both (ltb (headOf s) (s .count))
+      (λ b. simp (a, b) (head-may (ltb-true (headOf s) (s .count) b)))
+      (λ b.
+      let none = none-waits s (ltb-false (headOf s) (s .count) b) in
+      simp (a, b) (idle-may (λ j l c. absurd (true≢false (sym (ahead-waits s idle j c) ∙ none j l))))))

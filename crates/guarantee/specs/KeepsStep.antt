@@ -1,0 +1,133 @@
+-- What a good session gives, and how a changed one is shown to be good. Here a session is good for the rows that it
+-- holds. Assumes nothing.
+use Prim.Native.Nat.{ℕ, _+_, _≤_, _<_}
+use mathlib.Core.Path.{_≡_, refl, sym, ap, _∙_}
+use mathlib.Core.Bool.{true}
+use mathlib.Core.List.{List}
+use mathlib.Core.Logic.{dite, _⊎_, inl, inr}
+use native.Mathlib.Omega.{arith}
+use native.Mathlib.Decide.{ℕ-discrete}
+use lib.Dec.{ltb}
+use lib.ListN.{length, set, length-set}
+use lib.Seq.{getD-set-same, getD-set-other}
+use Rattle.edf.specs.Demand.{TaskSet, Feasible}
+use Rattle.edf.specs.State.{State, WellFormed, Same, Others}
+use Rattle.edf.specs.Steps.{Start}
+use Rattle.edf.specs.Safe.{Step, safe-start, safe-step, Earliest, earliest-start, earliest-step}
+use Rattle.table.specs.Rows.{Fit, fit-lawful}
+use Rattle.session.specs.declared.Job.{Job}
+use Rattle.session.specs.declared.Session.{Session}
+use Rattle.session.specs.Reading.{clockEnd, noJob, jobAt, rowsOf, tasks, waits, startBudget, stateOf}
+use Rattle.session.specs.Calls.{changed}
+use Rattle.session.specs.Facts.{Choice, Facts, facts-of}
+use Rattle.guarantee.specs.Good.{SafeAs, asLoose, asTight, Good}
+use Rattle.guarantee.specs.KeepsTable.{Kind, answer-kind}
+use Rattle.guarantee.specs.KeepsSound.{sound-of}
+
+-- ---- the invariant of the theory
+
+pub as-formed : {τ : TaskSet} {s : State} {k : ℕ} → SafeAs τ s k → WellFormed τ s
+as-formed (asLoose v) = v .formed
+as-formed (asTight v) = v .formed
+
+-- a fresh state has it,
+pub as-start : (τ : TaskSet) → Fit τ → Feasible τ → (s : State) (k : ℕ) → Kind τ k → Start τ s → SafeAs τ s k
+as-start τ fit fe s k (inl e) st = rw (e .0) (asLoose (safe-start τ (fit-lawful τ fit) s st))
+as-start τ fit fe s k (inr e) st = rw e (asTight (earliest-start τ (fit-lawful τ fit) fe s st))
+
+-- and a step that the kind allows keeps it
+pub as-step : (τ : TaskSet) → Fit τ → Feasible τ → (s s′ : State) {k : ℕ} → SafeAs τ s k
+    → (k ≡ 1 → Step τ s s′) → (k ≡ 2 → Earliest τ s s′) → SafeAs τ s′ k
+as-step τ fit fe s s′ (asLoose v) a b = asLoose (safe-step τ (fit-lawful τ fit) s s′ v (a refl))
+as-step τ fit fe s s′ (asTight v) a b = asTight (earliest-step τ (fit-lawful τ fit) fe s s′ v (b refl))
+
+-- ---- a row with the same job
+
+pub waits-same : (s s′ : Session) (i : ℕ) → jobAt s′ i ≡ jobAt s i → waits s′ i ≡ waits s i
+unfolding waits
+waits-same s s′ i e = ap (λ (j : Job). ltb 0 (j .left)) e
+
+pub job-same : (s s′ : Session) (i : ℕ) → jobAt s′ i ≡ jobAt s i → Same (stateOf s) (stateOf s′) i
+job-same s s′ i e = record {
+  next = ap (λ (j : Job). j .next) e;
+  due = ap (λ (j : Job). j .due) e;
+  left = ap (λ (j : Job). j .left) e;
+  waits = waits-same s s′ i e;
+}
+
+-- ---- a good session
+
+-- what soundness asks of row i, besides the invariant of the theory
+pub record Bounds (τ : TaskSet) (s : Session) (i : ℕ) : Type 0 where
+  pub next : jobAt s i .next ≤ s .clock + τ .T i
+  pub budget : waits s i ≡ true → jobAt s i .budget ≤ startBudget (s .kind) τ i
+
+module _ (s : Session) (g : Good (rowsOf s) s) where
+  pub good-facts : Facts s
+  good-facts = facts-of s (g .sound)
+
+  pub good-kind : Kind (tasks s) (s .kind)
+  good-kind = let f = good-facts in rw (f .kind) at (answer-kind (rowsOf s) 0 (f .admitted))
+
+  pub good-bounds : (i : ℕ) → i < s .count → Bounds (tasks s) s i
+  good-bounds i l = record { next = good-facts .next i l; budget = λ w. good-facts .job i l w .budget }
+
+  -- other jobs, another clock and another choice
+  pub good-changed : (clock : ℕ) (jobs : List Job) (c n : ℕ) → length jobs ≡ 16 → clock ≤ clockEnd
+      → SafeAs (tasks s) (stateOf (changed s clock jobs c n)) (s .kind)
+      → ((i : ℕ) → i < s .count → Bounds (tasks s) (changed s clock jobs c n) i)
+      → (n ≡ 0) ⊎ Choice (changed s clock jobs c n) → Good (rowsOf s) (changed s clock jobs c n)
+  unfolding rowsOf
+  good-changed clock jobs c n size end safe bounds choice = record {
+    fit = g .fit;
+    feasible = g .feasible;
+    rows = refl;
+    count = g .count;
+    places = size;
+    sound = sound-of (changed s clock jobs c n)
+        (record {
+          few = good-facts .few;
+          admitted = good-facts .admitted;
+          kind = good-facts .kind;
+          clock = end;
+          next = λ i l. bounds i l .next;
+          job = λ i l w.
+              let f = as-formed safe i (omega (arith, g .count)) w in
+              record { some = f .some; most = f .most; deadline = f .deadline; late = f .ahead; budget = bounds i l .budget w };
+          choice = choice;
+        });
+    safe = safe;
+  }
+
+  -- another job of row k, and no choice
+  module _ (k : ℕ) (row : k < s .count) (job : Job) where
+    abbrev pub withJob : Session
+    withJob = changed s (s .clock) (set (s .jobs) k job) 0 0
+
+    pub set-at : jobAt withJob k ≡ job
+    set-at = getD-set-same (s .jobs) k job noJob (omega (arith, g .places, good-facts .few))
+
+    pub set-other : (i : ℕ) → ¬ (i ≡ k) → jobAt withJob i ≡ jobAt s i
+    set-other i ne = getD-set-other (s .jobs) k i job noJob ne
+
+    pub set-others : Others (tasks s) k (stateOf s) (stateOf withJob)
+    set-others i l ne = job-same s withJob i (set-other i ne)
+
+    pub good-set : job .next ≤ s .clock + tasks s .T k → job .budget ≤ startBudget (s .kind) (tasks s) k
+        → SafeAs (tasks s) (stateOf withJob) (s .kind) → Good (rowsOf s) withJob
+    good-set a b safe =
+        good-changed (s .clock) (set (s .jobs) k job) 0 0 (length-set (s .jobs) k job ∙ g .places) (good-facts .clock) safe
+        (λ i l. dite (ℕ-discrete i k)
+        (λ e. rw e
+        (record {
+          next = omega (arith, ap (λ (j : Job). j .next) set-at);
+          budget = λ w. omega (arith, ap (λ (j : Job). j .budget) set-at);
+        }))
+        (λ ne.
+        let e = set-other i ne in
+        let f = good-bounds i l in
+        record {
+          next = omega (arith, ap (λ (j : Job). j .next) e, f .next);
+          budget = λ w. omega (arith, ap (λ (j : Job). j .budget) e, f .budget (sym (waits-same s withJob i e) ∙ w));
+        }))
+        (inl refl)

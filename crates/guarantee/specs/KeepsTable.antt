@@ -1,0 +1,69 @@
+-- The kind of an admitted table, and the budgets that its jobs arrive with (docs/SPECIFICATION.md §3.1, §5.3).
+-- Assumes nothing.
+use Prim.Native.Nat.{ℕ, suc, _+_, _≤_, _<_}
+use mathlib.Core.Path.{_≡_, refl, sym, ap, _∙_}
+use mathlib.Core.Bool.{true, false, not}
+use mathlib.Core.List.{List}
+use mathlib.Core.Logic.{_⊎_, inl, inr}
+use native.Mathlib.Omega.{arith}
+use lib.Dec.{ltb}
+use lib.IntN.{subℕ}
+use lib.ListN.{length}
+use borrow.Author.Tests.{le-ltb, ltb-false, not-true}
+use Rattle.bounded.specs.Tests.{both}
+use Rattle.bounded.specs.All.{all-at}
+use Rattle.bounded.specs.Signed.{negative, difference-negative, difference-sub}
+use Rattle.edf.specs.Demand.{TaskSet, interference}
+use Rattle.table.specs.Rows.{tasksOf, firstBroken}
+use Rattle.table.specs.Budgets.{budgetOf, loose, looseTo}
+use Rattle.table.specs.Verdict.{badLength, overloaded, settled, opinionOf, answerOf}
+use Rattle.session.specs.Reading.{natural, startBy, startBudget}
+
+-- ---- the kind
+
+pub answer-length : (l : List ℕ) (t : ℕ) → answerOf l t .number ≡ 0 → badLength (length l) ≡ false
+unfolding answerOf
+answer-length l t z = both (badLength (length l)) (λ e. let x : 1 ≡ 0 = simp e at z in absurd (omega arith)) (λ e. e)
+
+-- 1 where the table is loose, and otherwise 2
+abbrev pub Kind : TaskSet → ℕ → Type 0
+Kind τ k = ((k ≡ 1) × (loose τ ≡ true)) ⊎ (k ≡ 2)
+
+pub answer-kind : (l : List ℕ) (t : ℕ) → answerOf l t .number ≡ 0 → Kind (tasksOf l) (answerOf l t .first)
+unfolding answerOf opinionOf
+answer-kind l t z =
+    both (badLength (length l)) (λ e. none (simp e at z))
+    (λ e. both (ltb (firstBroken (tasksOf l)) (tasksOf l .rows)) (λ f. none (simp (e, f) at z))
+    (λ f. both (loose (tasksOf l)) (λ g. simp (e, f, g) (inl (refl, refl)))
+    (λ g. both (overloaded (tasksOf l)) (λ h. none (simp (e, f, g, h) at z))
+    (λ h. both (settled (tasksOf l)) (λ k. simp (e, f, g, h, k) (inr refl)) (λ k. none (simp (e, f, g, h, k) at z))))))
+  where
+    none : {n : ℕ} → suc n ≡ 0 → Kind (tasksOf l) (answerOf l t .first)
+    none e = absurd (omega arith)
+
+-- ---- the starting budget
+
+-- a difference that is not negative
+natural-sub : (a b : ℕ) → b ≤ a → natural (subℕ a b) + b ≡ a
+natural-sub a b h = simp (le-ltb a b h) (omega arith)
+
+-- in a loose session it is V, which is what the other rows leave of D - C
+pub start-loose : (τ : TaskSet) (kind : ℕ) → kind ≡ 1 → loose τ ≡ true → (i : ℕ) → i < τ .rows
+    → startBudget kind τ i + τ .C i + interference τ i (τ .D i) ≤ τ .D i
+unfolding loose looseTo budgetOf startBudget startBy
+start-loose τ kind k e i l =
+    rw k
+    (let h =
+    ltb-false (τ .D i) _
+    (sym (difference-negative (τ .D i) (τ .C i) (interference τ i (τ .D i)))
+    ∙ not-true (negative (budgetOf τ i)) (all-at (λ i. not (negative (budgetOf τ i))) (τ .rows) e i l)) in
+    omega (
+      arith,
+      natural-sub (τ .D i) (τ .C i + interference τ i (τ .D i)) h,
+      ap natural (difference-sub (τ .D i) (τ .C i) (interference τ i (τ .D i))),
+    ))
+
+-- in a tight one it is 0
+pub start-tight : (τ : TaskSet) (kind : ℕ) → kind ≡ 2 → (i : ℕ) → startBudget kind τ i ≡ 0
+unfolding startBudget startBy
+start-tight τ kind k i = rw k

@@ -1,0 +1,181 @@
+-- The ledger, which is kept from the calls and their answers alone, follows the session (docs/SPECIFICATION.md §6.1).
+-- Assumes nothing.
+use Prim.Native.Nat.{ℕ, zero, suc, _+_, _-_, _≤_, _<_}
+use mathlib.Core.Path.{_≡_, refl, sym, ap, _∙_}
+use mathlib.Core.Bool.{cond}
+use mathlib.Core.List.{List}
+use mathlib.Core.Logic.{dite, _⊎_, inl, inr}
+use native.Mathlib.Omega.{arith}
+use native.Mathlib.Decide.{ℕ-discrete}
+use lib.Dec.{leb, ltb, eqb}
+use lib.ListN.{getD, set, replicate}
+use lib.Seq.{getD-set-same, getD-set-other}
+use borrow.Author.Tests.{leb-false, ltb-false, eq-eqb, ne-eqb}
+use Rattle.bounded.specs.Tests.{both}
+use Rattle.table.specs.Rows.{tasksOf}
+use Rattle.table.specs.Verdict.{answerOf}
+use Rattle.session.specs.declared.Job.{Job}
+use Rattle.session.specs.declared.Session.{Session}
+use Rattle.session.specs.declared.Answer.{Answer}
+use Rattle.session.specs.Reading.{idle, clockEnd, noJob, jobAt}
+use Rattle.session.specs.Facts.{Running}
+use Rattle.session.specs.Calls.{shown, changed, arrivedJob, arriveIn, chooseIn, overJob, agedJobs, advanceIn, finishIn, arriveOf, chooseOf, advanceOf, finishOf}
+use Rattle.session.specs.Admit.{freshOf, sessionOf}
+use Rattle.guarantee.specs.Ledger.{Call, arrive, choose, advance, finish, Entry, Ledger, empty, ran, ended, onLatest, noted, kept}
+use Rattle.guarantee.specs.Statement.{outcomeOf, InTime}
+use Rattle.guarantee.specs.Good.{Good}
+use Rattle.guarantee.specs.TiesRow.{Stands, waiting, Follows, nothing, other, InRow, stands-ended, stands-ran, follows-kept, follows-new, follows-changed, follows-other, follows-timely, each-timely}
+use Rattle.guarantee.specs.TiesJobs.{agedAt, aged-chosen, aged-other, places, in-table, time-left, none-waits, in-force, running, running-time}
+
+-- the clocks agree, so do the chosen rows where a choice is in force, and the entries of each row follow its job
+pub record Tied (l : List ℕ) (g : Ledger) (s : Session) : Type 0 where
+  pub clock : g .clock ≡ s .clock
+  pub chosen : 1 ≤ s .span → g .chosen ≡ s .chosen
+  pub rows : (i : ℕ) → Follows (tasksOf l) i (jobAt s i) (g .entries)
+
+-- ---- an accepted call
+
+module _ (l : List ℕ) (g : Ledger) (s : Session) (good : Good l s) (tied : Tied l g s) where
+  -- the job of row k becomes j, and no entry of another row changes
+  set-rows : (k : ℕ) (j : Job) (es : List Entry) → k < s .count → Follows (tasksOf l) k j es
+      → ((i : ℕ) → ¬ (i ≡ k) → Follows (tasksOf l) i (jobAt s i) es)
+      → (i : ℕ) → Follows (tasksOf l) i (getD (set (s .jobs) k j) i noJob) es
+  set-rows k j es h same others i =
+      dite (ℕ-discrete i k) (λ e. rw (e, getD-set-same (s .jobs) k j noJob (omega (arith, places l s good))) same)
+      (λ ne. rw (getD-set-other (s .jobs) k i j noJob ne) (others i ne))
+
+  tied-arrive : (k : ℕ) (a : Answer) → k < s .count → jobAt s k .next ≤ s .clock
+      → Tied l (noted (tasksOf l) g (arrive k) a) (changed s (s .clock) (set (s .jobs) k (arrivedJob s k)) 0 0)
+  unfolding noted
+  tied-arrive k a h e = record {
+    clock = tied .clock;
+    chosen = λ force. absurd (omega arith);
+    rows = set-rows k (arrivedJob s k) (noted (tasksOf l) g (arrive k) a .entries) h
+        (rw (good .rows)
+        (follows-new (tasksOf l) k _ refl (none-waits l s good k h e)
+        (waiting (in-table l s good k h) (good .fit .row k (in-table l s good k h) .cost) refl (omega (arith, tied .clock)) (omega arith))
+        (tied .rows k)))
+        (λ i ne. other (λ q. ne (sym q)) (tied .rows i));
+  }
+
+  tied-choose : (w : List ℕ) (a : Answer) (c n : ℕ) → shown a .first ≡ c
+      → Tied l (noted (tasksOf l) g (choose w) a) (changed s (s .clock) (s .jobs) c n)
+  unfolding noted
+  tied-choose w a c n e = record { clock = tied .clock; chosen = λ force. e; rows = tied .rows }
+
+  -- a row runs: the latest entry of that row changes by f, and no other entry
+  module _ (force : 1 ≤ s .span) (r : Running s) (f : Entry → Entry) (keeps : InRow f) where
+    chosen-row : (j : Job)
+        → ((e : Entry) → e .row ≡ s .chosen → Stands (tasksOf l) (s .chosen) (jobAt s (s .chosen)) e → Stands (tasksOf l) (s .chosen) j (f e))
+        → Follows (tasksOf l) (s .chosen) j (onLatest (g .chosen) f (g .entries))
+    chosen-row j step =
+        rw (tied .chosen force)
+        (follows-changed (tasksOf l) (s .chosen) f keeps (omega (arith, r .within)) step (tied .rows (s .chosen)))
+
+    other-row : (i : ℕ) → ¬ (i ≡ s .chosen) → Follows (tasksOf l) i (jobAt s i) (onLatest (g .chosen) f (g .entries))
+    other-row i ne = rw (tied .chosen force) (follows-other (tasksOf l) i (s .chosen) f keeps ne (tied .rows i))
+
+  tied-finish : (a : Answer) → 1 ≤ s .span → Running s
+      → Tied l (noted (tasksOf l) g finish a) (changed s (s .clock) (set (s .jobs) (s .chosen) (overJob s (s .chosen))) 0 0)
+  unfolding noted
+  tied-finish a force r =
+      let t = running-time l s good force r in
+      record {
+        clock = tied .clock;
+        chosen = λ force. absurd (omega arith);
+        rows = set-rows (s .chosen) (overJob s (s .chosen)) (noted (tasksOf l) g finish a .entries) (r .known)
+            (chosen-row force r (ended (g .clock)) (λ e. refl) (overJob s (s .chosen))
+            (λ e q. stands-ended (tasksOf l) (s .chosen) (g .clock) e (t .0) (omega (arith, tied .clock, t .1)) refl))
+            (other-row force r (ended (g .clock)) (λ e. refl));
+      }
+
+  -- n ticks, not more than the span
+  module _ (n : ℕ) (a : Answer) (force : 1 ≤ s .span) (most : n ≤ s .span) where
+    -- a row that does not run
+    idle-row : (i : ℕ) (es : List Entry) → (i < s .count → ¬ (i ≡ s .chosen))
+        → Follows (tasksOf l) i (jobAt s i) es → Follows (tasksOf l) i (agedAt s n i) es
+    idle-row i es ne h = follows-kept (tasksOf l) i (aged-other s n (places l s good) i ne) h
+
+    -- the row that runs
+    run-row : Running s
+        → Follows (tasksOf l) (s .chosen) (agedAt s n (s .chosen)) (onLatest (g .chosen) (ran (tasksOf l) (g .clock + n) n) (g .entries))
+    run-row r =
+        let t = running-time l s good force r in
+        chosen-row force r (ran (tasksOf l) (g .clock + n) n) (λ e. refl) (agedAt s n (s .chosen))
+        (λ e q. stands-ran (tasksOf l) (s .chosen) (g .clock + n) n e q (t .0) (omega (arith, r .within))
+        (omega (arith, tied .clock, t .1, r .within))
+        (aged-chosen s n (places l s good) (r .known)))
+
+    -- under idle no entry changes
+    advance-rows : (s .chosen ≡ idle) ⊎ Running s
+        → (i : ℕ) → Follows (tasksOf l) i (agedAt s n i) (noted (tasksOf l) g (advance n) a .entries)
+    unfolding noted
+    advance-rows (inl e) i =
+        simp (eq-eqb (g .chosen) idle (tied .chosen force ∙ e))
+        (idle-row i (g .entries) (λ h q. omega (arith, good .count, good .fit .few)) (tied .rows i))
+    advance-rows (inr r) i =
+        simp (ne-eqb (g .chosen) idle (λ q. omega (arith, tied .chosen force, r .known, good .count, good .fit .few)))
+        (dite (ℕ-discrete i (s .chosen)) (λ e. rw e (run-row r))
+        (λ ne. idle-row i _ (λ h. ne) (other-row force r (ran (tasksOf l) (g .clock + n) n) (λ e. refl) i ne)))
+
+    tied-advance : (s .chosen ≡ idle) ⊎ Running s
+        → Tied l (noted (tasksOf l) g (advance n) a)
+        (changed s (s .clock + n) (agedJobs s n (s .count)) (cond (eqb (s .span) n) 0 (s .chosen)) (s .span - n))
+    unfolding noted
+    tied-advance c = record {
+      clock = omega (arith, tied .clock);
+      chosen = λ rest. simp (ne-eqb (s .span) n (omega arith)) (tied .chosen force);
+      rows = advance-rows c;
+    }
+
+-- ---- any call: one that is refused changes neither
+
+module _ (l : List ℕ) (g : Ledger) (s : Session) (good : Good l s) (tied : Tied l g s) where
+  pub tied-call : (c : Call) → Tied l (kept (tasksOf l) g (record { call = c; answer = outcomeOf s c .answer })) (outcomeOf s c .session)
+  unfolding kept arriveOf arriveIn chooseOf chooseIn advanceOf advanceIn finishOf finishIn
+  tied-call (arrive k) =
+      simp (good .sound)
+      (both (leb (s .count) k) (λ e. simp e tied)
+      (λ e. both (ltb (s .clock) (jobAt s k .next)) (λ f. simp (e, f) tied)
+      (λ f. simp (e, f) (tied-arrive l g s good tied k _ (leb-false _ _ e) (ltb-false _ _ f)))))
+  tied-call (choose w) =
+      simp (good .sound)
+      (both (ltb 0 (s .span)) (λ e. simp e tied) (λ e. simp e (tied-choose l g s good tied w _ _ _ refl)))
+  tied-call (advance n) =
+      simp (good .sound)
+      (both (eqb (s .span) 0) (λ e. simp e tied)
+      (λ e. both (eqb n 0) (λ f. simp (e, f) tied)
+      (λ f. both (ltb (s .span) n) (λ h. simp (e, f, h) tied)
+      (λ h. both (ltb clockEnd (s .clock + n)) (λ k. simp (e, f, h, k) tied)
+      (λ k.
+      let c = in-force l s good e in
+      simp (e, f, h, k) (tied-advance l g s good tied n _ (c .some) (ltb-false _ _ h) (c .runs)))))))
+  tied-call finish =
+      simp (good .sound)
+      (both (eqb (s .span) 0) (λ e. simp e tied)
+      (λ e. both (eqb (s .chosen) idle) (λ f. simp (e, f) tied)
+      (λ f. simp (e, f) (tied-finish l g s good tied _ (in-force l s good e .some) (running l s good e f)))))
+
+  -- an entry that has no end has the deadline of a waiting job, which is ahead of the clock
+  pub tied-timely : InTime (tasksOf l) g
+  tied-timely =
+      each-timely (tasksOf l) (g .clock) (g .entries)
+      (λ i. follows-timely (tasksOf l) i (g .clock)
+      (λ h some. omega (arith, tied .clock, time-left l s good i (omega (arith, good .count)) some)) (tied .rows i))
+
+-- ---- a fresh session: no entry, and no job
+
+no-job : (n i : ℕ) → getD (replicate n noJob) i noJob ≡ noJob
+no-job zero i = refl
+no-job (suc n) zero = refl
+no-job (suc n) (suc i) = no-job n i
+
+pub tied-fresh : (l : List ℕ) (t : ℕ) → answerOf l t .number ≡ 0 → Tied l empty (sessionOf l t)
+unfolding sessionOf freshOf
+tied-fresh l t e =
+    simp (eq-eqb _ _ e)
+    (record {
+      clock = refl;
+      chosen = λ force. absurd (omega arith);
+      rows = λ i. nothing (ap (λ (j : Job). j .left) (no-job 16 i));
+    })

@@ -1,0 +1,70 @@
+use mathlib.Core.Bool.{true}
+use mathlib.Core.Path.{_≡_}
+use Prim.Native.Nat.{_≤_, _-_}
+use Rattle.bounded.specs.All.{allTo, all-laws}
+use Rattle.session.specs.Soundness.{affords-row}
+use Rattle.session.specs.Sound.{affords}
+use borrow.Author.Needs.{needs}
+use Rattle.session.proofs.sound.covered.Statement.{statement}
+use Rattle.session.proofs.sound.covered.Tie as tie
+use Rattle.session.proofs.sound.covered.Reads as reads
+use Rattle.session.proofs.sound.covered.Lts as lts
+use Rattle.session.proofs.sound.covers.Reads as covers-reads
+
+abbrev Inv-loop : tie.InvT-loop
+Inv-loop due s n c span i₀ i = (i ≤ n) × (allTo (affords s (s .chosen) (s .span)) i ≡ true)
+
+abbrev μ-loop : tie.MeasureT-loop
+μ-loop due s n c span i₀ i = n - i
+
+-- src/sound.rt:46:5
+loop-holds : tie.Need-loop-holds Inv-loop μ-loop
+loop-holds c = search (needs, affords-row, all-laws)
+
+-- src/sound.rt:47:17
+mul-j : tie.Need-mul-j Inv-loop μ-loop
+mul-j c = search needs
+
+-- src/sound.rt:47:17
+element-copy-out-j : tie.Need-element-copy-out-j Inv-loop μ-loop
+element-copy-out-j c = search needs
+
+-- src/sound.rt:48:12
+covers-requires : tie.Need-covers-requires Inv-loop μ-loop
+covers-requires c κs = search needs
+
+-- src/sound.rt:49:17
+add-i : tie.Need-add-i Inv-loop μ-loop
+add-i c = search needs
+
+-- src/sound.rt:46:5
+loop-less : tie.Need-loop-less Inv-loop μ-loop
+loop-less c = search needs
+
+-- src/sound.rt:46:5
+loop-again : tie.Need-loop-again Inv-loop μ-loop
+loop-again c = search (needs, affords-row, all-laws)
+
+-- src/sound.rt:51:13
+returns : tie.Need-returns Inv-loop μ-loop
+returns c = search (needs, affords-row, all-laws)
+
+-- src/sound.rt:38:1
+returns-2 : tie.Need-returns-2 Inv-loop μ-loop
+returns-2 c = search (needs, affords-row, all-laws)
+
+pub covered-spec : {M : Type 1} → statement M
+covered-spec =
+    tie.close
+    (tie.spec
+    Inv-loop
+    μ-loop
+    loop-holds
+    mul-j
+    element-copy-out-j
+    covers-requires
+    add-i
+    loop-less
+    loop-again
+    returns
+    returns-2)

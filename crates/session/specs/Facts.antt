@@ -1,0 +1,111 @@
+-- What a sound session's tests say, as facts (docs/SPECIFICATION.md §5.2). Assumes nothing.
+use Prim.Native.Nat.{ℕ, _+_, _≤_, _<_}
+use mathlib.Core.Path.{_≡_}
+use mathlib.Core.Bool.{Bool, true, false, not, _&&_, _||_}
+use mathlib.Core.Logic.{_⊎_, inl, inr, ⊎-elim}
+use native.Mathlib.Omega.{arith}
+use lib.Dec.{leb, ltb, eqb}
+use borrow.Author.Tests.{leb-true, ltb-true, eqb-true, eqb-false}
+use Rattle.bounded.specs.Tests.{both, and-true, so-then, or-true}
+use Rattle.bounded.specs.All.{allTo, all-at}
+use Rattle.table.specs.Rows.{horizon, Fit}
+use Rattle.table.specs.Verdict.{answerOf}
+use Rattle.table.specs.Theorems.{answer-fit}
+use Rattle.session.specs.declared.Session.{Session}
+use Rattle.session.specs.Reading.{idle, clockEnd, jobAt, rowsOf, tasks, waits, ahead, startBudget}
+use Rattle.session.specs.Sound.{soundRows, soundWaiting, soundJob, runs, affords, soundChoice, sound}
+
+-- the job of row i, where one waits
+pub record Waiting (s : Session) (i : ℕ) : Type 0 where
+  pub some : 1 ≤ jobAt s i .left
+  pub most : jobAt s i .left ≤ tasks s .C i
+  pub deadline : jobAt s i .due + tasks s .T i ≡ jobAt s i .next + tasks s .D i
+  pub late : s .clock < jobAt s i .due
+  pub budget : jobAt s i .budget ≤ startBudget (s .kind) (tasks s) i
+
+-- the chosen row, where idle is not chosen
+pub record Running (s : Session) : Type 0 where
+  pub known : s .chosen < s .count
+  pub waiting : waits s (s .chosen) ≡ true
+  pub within : s .span ≤ jobAt s (s .chosen) .left
+
+-- the choice, where one is in force
+pub record Choice (s : Session) : Type 0 where
+  pub some : 1 ≤ s .span
+  pub small : s .span ≤ horizon
+  pub runs : (s .chosen ≡ idle) ⊎ Running s
+  pub affords : (j : ℕ) → j < s .count → ahead s (s .chosen) j ≡ true → s .span ≤ jobAt s j .budget
+
+pub record Facts (s : Session) : Type 0 where
+  pub few : s .count ≤ 16
+  pub admitted : answerOf (rowsOf s) 0 .number ≡ 0
+  pub kind : answerOf (rowsOf s) 0 .first ≡ s .kind
+  pub clock : s .clock ≤ clockEnd
+  pub next : (i : ℕ) → i < s .count → jobAt s i .next ≤ s .clock + tasks s .T i
+  pub job : (i : ℕ) → i < s .count → waits s i ≡ true → Waiting s i
+  pub choice : (s .span ≡ 0) ⊎ Choice s
+
+waiting-of : (s : Session) (i : ℕ) → waits s i ≡ true → soundWaiting s i ≡ true → Waiting s i
+unfolding waits soundWaiting
+waiting-of s i w e =
+    let a = and-true _ _ e in
+    let b = and-true _ _ (a .1) in
+    let c = and-true _ _ (b .1) in
+    record {
+      some = ltb-true 0 (jobAt s i .left) w;
+      most = leb-true _ _ (a .0);
+      deadline = eqb-true _ _ (b .0);
+      late = ltb-true _ _ (c .0);
+      budget = leb-true _ _ (c .1);
+    }
+
+running-of : (s : Session) → runs s (s .chosen) (s .span) ≡ true → (s .chosen ≡ idle) ⊎ Running s
+unfolding runs
+running-of s e =
+    ⊎-elim (λ a. inl (eqb-true (s .chosen) idle a))
+    (λ b.
+    let c = and-true _ _ b in
+    let d = and-true _ _ (c .1) in
+    inr (record { known = ltb-true _ _ (c .0); waiting = d .0; within = leb-true _ _ (d .1) }))
+    (or-true (eqb (s .chosen) idle) _ e)
+
+choice-of : (s : Session) → soundChoice s ≡ true → (s .span ≡ 0) ⊎ Choice s
+unfolding soundChoice affords
+choice-of s e =
+    both (eqb (s .span) 0) (λ a. inl (eqb-true (s .span) 0 a))
+    (λ a.
+    let b = and-true (leb (s .span) horizon) (runs s (s .chosen) (s .span) && allTo (affords s (s .chosen) (s .span)) (s .count)) (simp a at e) in
+    let c = and-true (runs s (s .chosen) (s .span)) (allTo (affords s (s .chosen) (s .span)) (s .count)) (b .1) in
+    inr
+    (record {
+      some = omega (arith, eqb-false (s .span) 0 a);
+      small = leb-true (s .span) horizon (b .0);
+      runs = running-of s (c .0);
+      affords = λ j l w. leb-true (s .span) (jobAt s j .budget)
+      (so-then (ahead s (s .chosen) j) (leb (s .span) (jobAt s j .budget)) (all-at (affords s (s .chosen) (s .span)) (s .count) (c .1) j l) w);
+    }))
+
+pub facts-of : (s : Session) → sound s ≡ true → Facts s
+unfolding sound soundRows soundJob
+facts-of s e =
+    let a = and-true (soundRows s) _ e in
+    let b = and-true (leb (s .clock) clockEnd) (allTo (soundJob s) (s .count) && soundChoice s) (a .1) in
+    let c = and-true (allTo (soundJob s) (s .count)) (soundChoice s) (b .1) in
+    let r = and-true (leb (s .count) 16) (eqb (answerOf (rowsOf s) 0 .number) 0 && eqb (answerOf (rowsOf s) 0 .first) (s .kind)) (a .0) in
+    let k = and-true (eqb (answerOf (rowsOf s) 0 .number) 0) (eqb (answerOf (rowsOf s) 0 .first) (s .kind)) (r .1) in
+    let job : (i : ℕ) → i < s .count → soundJob s i ≡ true = all-at (soundJob s) (s .count) (c .0) in
+    record {
+      few = leb-true (s .count) 16 (r .0);
+      admitted = eqb-true _ _ (k .0);
+      kind = eqb-true _ _ (k .1);
+      clock = leb-true _ _ (b .0);
+      next = λ i l. leb-true _ _ (and-true (leb (jobAt s i .next) (s .clock + tasks s .T i)) (not (waits s i) || soundWaiting s i) (job i l) .0);
+      job = λ i l w. waiting-of s i w
+      (so-then (waits s i) (soundWaiting s i)
+      (and-true (leb (jobAt s i .next) (s .clock + tasks s .T i)) (not (waits s i) || soundWaiting s i) (job i l) .1) w);
+      choice = choice-of s (c .1);
+    }
+
+-- its rows keep their rule
+pub facts-fit : (s : Session) → Facts s → Fit (tasks s)
+facts-fit s f = answer-fit (rowsOf s) 0 (f .admitted)
