@@ -1,3 +1,17 @@
 pub mod Ledger
 pub mod Statement
 pub mod Good
+pub mod KeepsTable
+pub mod KeepsSound
+pub mod KeepsStep
+pub mod KeepsArrive
+pub mod KeepsFinish
+pub mod KeepsAdvance
+pub mod KeepsOrder
+pub mod KeepsChoose
+pub mod KeepsFresh
+pub mod Keeps
+pub mod TiesRow
+pub mod TiesJobs
+pub mod Ties
+pub mod Guarantee

@@ -1,6 +1,7 @@
 pub mod Reading
 pub mod Sound
 pub mod Order
+pub mod First
 pub mod Choose
 pub mod Calls
 pub mod Admit
@@ -8,3 +9,4 @@ pub mod Facts
 pub mod Ahead
 pub mod Soundness
 pub mod Code
+pub mod ChooseCode

@@ -3,9 +3,12 @@
 
 ghost use mathlib.Core.Path.{_≡_};
 ghost use Rattle.session.specs.Calls.{refused};
+ghost use Rattle.session.specs.Admit.{freshOf, noSession};
 
 pub mod sound;
+pub mod admit;
 pub mod arrive;
+pub mod choose;
 pub mod advance;
 pub mod finish;
 
@@ -72,7 +75,39 @@ impl Session {
 
     pub const CLOCK_END: u64 = 9007199254740992;
 
-    pub const ROWS: usize = 16;
+    pub const ROWS: u64 = 16;
+
+    // A session of the rows of a table of this kind as they start. Admission calls it for the tables that it admits.
+    pub fn fresh(words: &[u32], kind: u64) -> Self
+        ensures { λ r. ⌜ r ≡ freshOf (now (words .entry)) kind ⌝ }
+    {
+        let count = (words.len() / 3) as u64;
+        let copy = admit::copied(words);
+        Self {
+            clock: 0,
+            kind,
+            count,
+            words: copy,
+            jobs: [Job { next: 0, due: 0, left: 0, budget: 0 }; 16],
+            chosen: 0,
+            span: 0,
+        }
+    }
+
+    // No session: with no rows, every call on it answers 5.
+    pub fn none() -> Self
+        ensures { λ r. ⌜ r ≡ noSession ⌝ }
+    {
+        Self {
+            clock: 0,
+            kind: 0,
+            count: 0,
+            words: [0; 48],
+            jobs: [Job { next: 0, due: 0, left: 0, budget: 0 }; 16],
+            chosen: 0,
+            span: 0,
+        }
+    }
 }
 
 // A refused call: the same session, and no word used.

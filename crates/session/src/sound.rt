@@ -35,18 +35,16 @@ fn covers(j: Job, c: u64, due: u64, n: u64) -> bool
     true
 }
 
-// Whether each job that loses budget while the choice runs has as much as the choice has ticks left.
-fn covered(s: Session, due: u64) -> bool
-    requires { ⌜ (s .count ≤ 16) × DueOf s (s .chosen) due ⌝ }
-    ensures { λ r. ⌜ r ≡ allTo (affords s (s .chosen) (s .span)) (s .count) ⌝ }
+// Whether each job that loses budget while c runs has at least n of it.
+pub fn covered(s: Session, c: u64, due: u64, n: u64) -> bool
+    requires { ⌜ (s .count ≤ 16) × DueOf s c due ⌝ }
+    ensures { λ r. ⌜ r ≡ allTo (affords s c n) (s .count) ⌝ }
 {
-    let n = s.count as usize;
-    let c = s.chosen;
-    let span = s.span;
+    let rows = s.count as usize;
     let mut i: usize = 0;
-    while i < n {
+    while i < rows {
         let j = s.jobs[i];
-        if covers(j, c, due, span) {
+        if covers(j, c, due, n) {
             i = i + 1;
         } else {
             return false;
@@ -69,7 +67,7 @@ fn choice_sound(s: Session) -> bool
         return false;
     }
     if c == 16 {
-        return covered(s, 0);
+        return covered(s, c, 0, span);
     }
     if count <= c {
         return false;
@@ -81,7 +79,7 @@ fn choice_sound(s: Session) -> bool
     if k.left < span {
         return false;
     }
-    covered(s, k.due)
+    covered(s, c, k.due, span)
 }
 
 // A row's starting budget: V in a loose session, 0 in a tight one.

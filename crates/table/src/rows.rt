@@ -11,7 +11,7 @@ pub struct Task {
     pub deadline: u64,
 }
 
-fn wide(x: u32) -> u64
+pub fn wide(x: u32) -> u64
     ensures { λ r. ⌜ Wide x r ⌝ }
 {
     x as u64

@@ -12,44 +12,44 @@ use Rattle.session.proofs.sound.covered.Lts as lts
 use Rattle.session.proofs.sound.covers.Reads as covers-reads
 
 abbrev Inv-loop : tie.InvT-loop
-Inv-loop due s n c span i₀ i = (i ≤ n) × (allTo (affords s (s .chosen) (s .span)) i ≡ true)
+Inv-loop c due n s rows i₀ i = (i ≤ rows) × (allTo (affords s c n) i ≡ true)
 
 abbrev μ-loop : tie.MeasureT-loop
-μ-loop due s n c span i₀ i = n - i
+μ-loop c due n s rows i₀ i = rows - i
 
--- src/sound.rt:46:5
+-- src/sound.rt:45:5
 loop-holds : tie.Need-loop-holds Inv-loop μ-loop
 loop-holds c = search (needs, affords-row, all-laws)
 
--- src/sound.rt:47:17
+-- src/sound.rt:46:17
 mul-j : tie.Need-mul-j Inv-loop μ-loop
 mul-j c = search needs
 
--- src/sound.rt:47:17
+-- src/sound.rt:46:17
 element-copy-out-j : tie.Need-element-copy-out-j Inv-loop μ-loop
 element-copy-out-j c = search needs
 
--- src/sound.rt:48:12
+-- src/sound.rt:47:12
 covers-requires : tie.Need-covers-requires Inv-loop μ-loop
 covers-requires c κs = search needs
 
--- src/sound.rt:49:17
+-- src/sound.rt:48:17
 add-i : tie.Need-add-i Inv-loop μ-loop
 add-i c = search needs
 
--- src/sound.rt:46:5
+-- src/sound.rt:45:5
 loop-less : tie.Need-loop-less Inv-loop μ-loop
 loop-less c = search needs
 
--- src/sound.rt:46:5
+-- src/sound.rt:45:5
 loop-again : tie.Need-loop-again Inv-loop μ-loop
 loop-again c = search (needs, affords-row, all-laws)
 
--- src/sound.rt:51:13
+-- src/sound.rt:50:13
 returns : tie.Need-returns Inv-loop μ-loop
 returns c = search (needs, affords-row, all-laws)
 
--- src/sound.rt:38:1
+-- src/sound.rt:39:1
 returns-2 : tie.Need-returns-2 Inv-loop μ-loop
 returns-2 c = search (needs, affords-row, all-laws)
 

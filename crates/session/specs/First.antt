@@ -1,0 +1,113 @@
+-- The first in order of the waiting jobs, and the head (docs/SPECIFICATION.md §5.4). Assumes nothing.
+use Prim.Native.Nat.{ℕ, zero, suc, _≤_, _<_}
+use mathlib.Core.Path.{_≡_, sym, _∙_}
+use mathlib.Core.Bool.{true, false, not, _&&_, _||_, true≢false}
+use mathlib.Core.Logic.{dite, _⊎_, inl, inr, ⊎-elim}
+use native.Mathlib.Omega.{arith}
+use native.Mathlib.Decide.{decLt, ℕ-discrete}
+use lib.Dec.{ltb, eqb}
+use borrow.Author.Tests.{lt-ltb, le-ltb, ne-eqb}
+use Rattle.bounded.specs.Tests.{both, and-true, and-both}
+use Rattle.bounded.specs.All.{all-at, all-of}
+use Rattle.bounded.specs.Least.{least-at, least-before}
+use Rattle.session.specs.declared.Session.{Session}
+use Rattle.session.specs.Reading.{jobAt, waits}
+use Rattle.session.specs.Order.{before, isHead, headOf}
+
+-- ---- the first in order
+
+-- of the first n rows, i is the first in order that waits
+pub record First (s : Session) (n i : ℕ) : Type 0 where
+  pub row : i < n
+  pub waiting : waits s i ≡ true
+  pub least : (j : ℕ) → j < n → waits s j ≡ true → jobAt s i .due ≤ jobAt s j .due
+  pub first : (j : ℕ) → j < i → waits s j ≡ true → jobAt s i .due < jobAt s j .due
+
+abbrev pub NoneWaits : Session → ℕ → Type 0
+NoneWaits s n = (j : ℕ) → j < n → waits s j ≡ false
+
+-- it is so of one row more, where row n is not earlier
+pub first-same : (s : Session) (n i : ℕ) → First s n i → (waits s n ≡ true → jobAt s i .due ≤ jobAt s n .due) → First s (suc n) i
+first-same s n i f h = record {
+  row = omega (arith, f .row);
+  waiting = f .waiting;
+  least = λ j u w. dite (ℕ-discrete j n)
+      (λ e. let v : waits s n ≡ true = rw e at w in rw e (h v))
+      (λ ne. f .least j (omega arith) w);
+  first = f .first;
+}
+
+-- row n is, where it is earlier than each of them
+pub first-new : (s : Session) (n : ℕ) → waits s n ≡ true
+    → ((j : ℕ) → j < n → waits s j ≡ true → jobAt s n .due < jobAt s j .due) → First s (suc n) n
+first-new s n w h = record {
+  row = omega arith;
+  waiting = w;
+  least = λ j u v. dite (ℕ-discrete j n) (λ e. rw e (omega arith)) (λ ne. omega (arith, h j (omega arith) v));
+  first = h;
+}
+
+pub none-more : (s : Session) (n : ℕ) → NoneWaits s n → waits s n ≡ false → NoneWaits s (suc n)
+none-more s n h e j u = dite (ℕ-discrete j n) (λ q. rw q e) (λ q. h j (omega arith))
+
+pub first-of : (s : Session) (n : ℕ) → ((i : ℕ) × First s n i) ⊎ NoneWaits s n
+first-of s zero = inr (λ j u. absurd (omega arith))
+first-of s (suc n) =
+    ⊎-elim
+    (λ (p : (i : ℕ) × First s n i).
+    let i = p .0 in
+    let f = p .1 in
+    dite (decLt (jobAt s n .due) (jobAt s i .due))
+    (λ h. both (waits s n)
+    (λ w. inl (n, first-new s n w (λ j u v. omega (arith, f .least j u v))))
+    (λ w. inl (i, first-same s n i f (λ v. absurd (true≢false (sym v ∙ w))))))
+    (λ h. inl (i, first-same s n i f (λ v. omega arith))))
+    (λ (none : NoneWaits s n). both (waits s n)
+    (λ w. inl (n, first-new s n w (λ j u v. absurd (true≢false (sym v ∙ none j u)))))
+    (λ w. inr (none-more s n none w)))
+    (first-of s n)
+
+-- ---- the head
+
+pub first-head : (s : Session) (i : ℕ) → First s (s .count) i → isHead s i ≡ true
+unfolding isHead before
+first-head s i f =
+    and-both (waits s i) _ (f .waiting)
+    (all-of (λ j. not (waits s j && before s j i)) (s .count)
+    (λ j u. both (waits s j)
+    (λ w. simp (w, le-ltb (jobAt s j .due) (jobAt s i .due) (f .least j u w))
+    (dite (decLt j i)
+    (λ h. simp (ne-eqb (jobAt s j .due) (jobAt s i .due) (λ e. omega (arith, f .first j h w))))
+    (λ h. simp (le-ltb j i (omega arith)) (both (eqb (jobAt s j .due) (jobAt s i .due)) (λ e. simp e) (λ e. simp e)))))
+    (λ w. simp w)))
+
+module _ (s : Session) where
+  -- where there is no head, nothing waits
+  pub none-waits : s .count ≤ headOf s → NoneWaits s (s .count)
+  unfolding headOf
+  none-waits h =
+      ⊎-elim
+      (λ (p : (i : ℕ) × First s (s .count) i).
+      absurd
+      (true≢false
+      (sym (first-head s (p .0) (p .1)) ∙ least-before (isHead s) 0 (s .count) (p .0) (omega arith) (omega (arith, p .1 .row)))))
+      (λ none. none)
+      (first-of s (s .count))
+
+  pub is-head : headOf s < s .count → isHead s (headOf s) ≡ true
+  unfolding headOf
+  is-head h = least-at (isHead s) 0 (s .count) (omega arith)
+
+  -- the head waits, and no waiting job has an earlier deadline
+  pub head-waits : headOf s < s .count → waits s (headOf s) ≡ true
+  unfolding isHead
+  head-waits h = and-true (waits s (headOf s)) _ (is-head h) .0
+
+  pub head-least : headOf s < s .count → (j : ℕ) → j < s .count → waits s j ≡ true → jobAt s (headOf s) .due ≤ jobAt s j .due
+  unfolding isHead before
+  head-least h j u w =
+      let a = and-true (waits s (headOf s)) _ (is-head h) .1 in
+      let b : not (before s j (headOf s)) ≡ true = simp w at (all-at (λ j. not (waits s j && before s j (headOf s))) (s .count) a j u) in
+      dite (decLt (jobAt s j .due) (jobAt s (headOf s) .due))
+      (λ k. absurd (true≢false (sym b ∙ simp (lt-ltb (jobAt s j .due) (jobAt s (headOf s) .due) k))))
+      (λ k. omega arith)
