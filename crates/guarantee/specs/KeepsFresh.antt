@@ -1,18 +1,19 @@
 -- The fresh session of an admitted table is good (docs/SPECIFICATION.md §5.1). Assumes nothing.
-use Prim.Native.Nat.{ℕ, _*_, _/_, _%_, _≤_, _<_}
+use Prim.Native.Nat.{ℕ, _*_, _/_, _≤_, _<_, min}
 use mathlib.Core.Path.{_≡_, refl, sym, ap, _∙_}
-use mathlib.Core.Bool.{Bool, true, false, _||_, true≢false}
+use mathlib.Core.Bool.{true, false, true≢false}
 use mathlib.Core.List.{List}
 use mathlib.Core.Logic.{inl}
 use native.Mathlib.Omega.{arith}
-use lib.Dec.{ltb, eqb}
+use lib.Dec.{ltb}
 use lib.ListN.{length, getD, take, replicate, length-take, length-replicate, getD-replicate}
 use lib.Seq.{getD-take, ext-getD}
-use borrow.Author.Tests.{eq-eqb, eqb-true, ltb-false, not-false}
+use borrow.Author.Tests.{eq-eqb}
 use Rattle.bounded.specs.Fold.{put-length, put-at}
 use Rattle.edf.specs.Steps.{Start}
 use Rattle.table.specs.Rows.{tasksOf, Fit}
 use Rattle.table.specs.Verdict.{Answer, badLength, answerOf}
+use Rattle.table.specs.Assess.{good-length}
 use Rattle.table.specs.Theorems.{answer-fit, answer-admitted, admitted-fits}
 use Rattle.session.specs.declared.Job.{Job}
 use Rattle.session.specs.declared.Session.{Session}
@@ -26,29 +27,21 @@ use Rattle.guarantee.specs.KeepsStep.{as-start}
 
 -- ---- the rows
 
-or-false : (a b : Bool) → (a || b) ≡ false → (a ≡ false) × (b ≡ false)
-or-false true b e = absurd (true≢false e)
-or-false false b e = (refl, e)
-
 -- a table's numbers are 48 at most, three to a row
-length-rows : (n : ℕ) → badLength n ≡ false → (n ≤ 48) × (3 * (n / 3) ≡ n)
-unfolding badLength
-length-rows n e =
-    let a = or-false (eqb n 0 || ltb 48 n) _ e in
-    let b = or-false (eqb n 0) _ (a .0) in
-    let c : n % 3 ≡ 0 = eqb-true (n % 3) 0 (not-false _ (a .1)) in
-    (ltb-false 48 n (b .1), omega arith)
+length-rows : (n : ℕ) → badLength n ≡ false → (min n 48 ≡ n) × (3 * (n / 3) ≡ n)
+length-rows n e = let g = good-length n e in (omega arith, omega arith)
 
 -- a session of such a table holds its rows
 fresh-rows : (l : List ℕ) (kind : ℕ) → badLength (length l) ≡ false → rowsOf (freshOf l kind) ≡ l
 unfolding rowsOf freshOf wordsTo
 fresh-rows l kind e =
-    ext-getD 0 (take (3 * (length l / 3)) (wordsTo l (length l))) l whole
+    rw (n .0)
+    (ext-getD 0 (take (3 * (length l / 3)) (wordsTo l (length l))) l whole
     (λ i u.
     getD-take (3 * (length l / 3)) (wordsTo l (length l)) i 0 (omega (arith, n, whole))
-    ∙ put-at (λ i. getD l i 0) (replicate 48 0) (length l) 0 (omega (arith, n)) i (omega (arith, whole)))
+    ∙ put-at (λ i. getD l i 0) (replicate 48 0) (length l) 0 (omega (arith, n)) i (omega (arith, whole))))
   where
-    n : (length l ≤ 48) × (3 * (length l / 3) ≡ length l)
+    n : (min (length l) 48 ≡ length l) × (3 * (length l / 3) ≡ length l)
     n = length-rows (length l) e
 
     whole : length (take (3 * (length l / 3)) (wordsTo l (length l))) ≡ length l

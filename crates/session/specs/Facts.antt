@@ -82,7 +82,7 @@ choice-of s e =
       small = leb-true (s .span) horizon (b .0);
       runs = running-of s (c .0);
       affords = λ j l w. leb-true (s .span) (jobAt s j .budget)
-      (so-then (ahead s (s .chosen) j) (leb (s .span) (jobAt s j .budget)) (all-at (affords s (s .chosen) (s .span)) (s .count) (c .1) j l) w);
+          (so-then (ahead s (s .chosen) j) (leb (s .span) (jobAt s j .budget)) (all-at (affords s (s .chosen) (s .span)) (s .count) (c .1) j l) w);
     }))
 
 pub facts-of : (s : Session) → sound s ≡ true → Facts s
@@ -101,8 +101,8 @@ facts-of s e =
       clock = leb-true _ _ (b .0);
       next = λ i l. leb-true _ _ (and-true (leb (jobAt s i .next) (s .clock + tasks s .T i)) (not (waits s i) || soundWaiting s i) (job i l) .0);
       job = λ i l w. waiting-of s i w
-      (so-then (waits s i) (soundWaiting s i)
-      (and-true (leb (jobAt s i .next) (s .clock + tasks s .T i)) (not (waits s i) || soundWaiting s i) (job i l) .1) w);
+          (so-then (waits s i) (soundWaiting s i)
+          (and-true (leb (jobAt s i .next) (s .clock + tasks s .T i)) (not (waits s i) || soundWaiting s i) (job i l) .1) w);
       choice = choice-of s (c .1);
     }
 

@@ -8,5 +8,4 @@ pub mod Admit
 pub mod Facts
 pub mod Ahead
 pub mod Soundness
-pub mod Code
-pub mod ChooseCode
+pub mod Guard

@@ -3,7 +3,6 @@ ghost use mathlib.Core.Path.{_≡_};
 ghost use Prim.Native.Nat.{min};
 ghost use lib.ListN.{length};
 ghost use Rattle.session.specs.Admit.{wordsTo, Admitted};
-
 use super::Session;
 
 // The answer on a table, and its fresh session; no session where it is refused.
@@ -40,8 +39,14 @@ pub fn admit(words: &[u32]) -> Admission
     let n = table::shown(verdict);
     if n.number == 0 {
         let session = Session::fresh(words, n.first);
-        return Admission { assessment, session };
+        return Admission {
+            assessment,
+            session,
+        };
     }
     let session = Session::none();
-    Admission { assessment, session }
+    Admission {
+        assessment,
+        session,
+    }
 }

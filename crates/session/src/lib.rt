@@ -1,16 +1,11 @@
 // The session: a value that goes in and comes back with each call (docs/SPECIFICATION.md §5).
 
-
 ghost use mathlib.Core.Path.{_≡_};
 ghost use Rattle.session.specs.Calls.{refused};
 ghost use Rattle.session.specs.Admit.{freshOf, noSession};
 
-pub mod sound;
 pub mod admit;
-pub mod arrive;
-pub mod choose;
-pub mod advance;
-pub mod finish;
+pub mod sound;
 
 // A row's earliest next arrival; and its waiting job's deadline, remaining ticks and budget left (the remaining inversion
 // budget). No job of the row waits where `left` is 0; `due` and `budget` are then 0 too.
@@ -88,7 +83,12 @@ impl Session {
             kind,
             count,
             words: copy,
-            jobs: [Job { next: 0, due: 0, left: 0, budget: 0 }; 16],
+            jobs: [Job {
+                next: 0,
+                due: 0,
+                left: 0,
+                budget: 0,
+            }; 16],
             chosen: 0,
             span: 0,
         }
@@ -103,7 +103,12 @@ impl Session {
             kind: 0,
             count: 0,
             words: [0; 48],
-            jobs: [Job { next: 0, due: 0, left: 0, budget: 0 }; 16],
+            jobs: [Job {
+                next: 0,
+                due: 0,
+                left: 0,
+                budget: 0,
+            }; 16],
             chosen: 0,
             span: 0,
         }
@@ -111,8 +116,12 @@ impl Session {
 }
 
 // A refused call: the same session, and no word used.
-fn refuse(s: Session, answer: Answer) -> Outcome
+pub fn refuse(s: Session, answer: Answer) -> Outcome
     ensures { λ r. ⌜ r ≡ refused s answer ⌝ }
 {
-    Outcome { answer, used: 0, session: s }
+    Outcome {
+        answer,
+        used: 0,
+        session: s,
+    }
 }

@@ -8,8 +8,8 @@ ghost use Rattle.session.specs.Reading.{clockEnd, startBy};
 ghost use Rattle.session.specs.Sound.{affords, soundJob, soundChoice, sound};
 ghost use Rattle.session.specs.Ahead.{aheadBy, DueOf};
 ghost use Rattle.session.specs.Soundness.{Small, soundBy, soundIn, affordsBy, Valued};
-
-use super::{Job, Session};
+use super::Job;
+use super::Session;
 use table::rows::Task;
 
 // Whether j loses budget while c, which is due at `due` where it is a row, runs.

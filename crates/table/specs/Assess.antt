@@ -85,7 +85,7 @@ bad-rest n h l = simp (ne-eqb n 0 h, le-ltb 48 n l)
 
 pub ruleset length-cases = (bad-none, bad-long, bad-rest)
 
-good-length : (n : ℕ) → badLength n ≡ false → (1 ≤ n) × (n ≤ 48) × (n % 3 ≡ 0)
+pub good-length : (n : ℕ) → badLength n ≡ false → (1 ≤ n) × (n ≤ 48) × (n % 3 ≡ 0)
 unfolding badLength
 good-length n e =
     both (eqb n 0) (λ p. clash (bad-none n (eqb-true n 0 p)))

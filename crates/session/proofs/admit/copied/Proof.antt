@@ -1,12 +1,10 @@
-use mathlib.Core.Path.{_≡_}
+-- `session::admit::copied` meets its contract. Assumes nothing.
 use Prim.Native.Nat.{_≤_, _-_}
-use Rattle.session.specs.Admit.{wordsTo, words-laws}
+use mathlib.Core.Path.{_≡_}
 use borrow.Author.Needs.{needs}
+use Rattle.session.specs.Admit.{wordsTo, words-laws}
 use Rattle.session.proofs.admit.copied.Statement.{statement}
 use Rattle.session.proofs.admit.copied.Tie as tie
-use Rattle.session.proofs.admit.copied.Reads as reads
-use Rattle.session.proofs.admit.copied.Lts as lts
-use Rattle.session.proofs.admit.least.Reads as least-reads
 
 abbrev Inv-loop : tie.InvT-loop
 Inv-loop words n copy₀ i₀ copy i = (i ≤ n) × (copy ≡ wordsTo words i)
@@ -14,43 +12,33 @@ Inv-loop words n copy₀ i₀ copy i = (i ≤ n) × (copy ≡ wordsTo words i)
 abbrev μ-loop : tie.MeasureT-loop
 μ-loop words n copy₀ i₀ copy i = n - i
 
--- src/admit.rt:19:9
 least-requires : tie.Need-least-requires Inv-loop μ-loop
 least-requires c κs = search needs
 
--- src/admit.rt:22:5
 loop-holds : tie.Need-loop-holds Inv-loop μ-loop
 loop-holds c = search (needs, words-laws)
 
--- src/admit.rt:23:19
 mul-copy : tie.Need-mul-copy Inv-loop μ-loop
 mul-copy c = search needs
 
--- src/admit.rt:23:19
 shared-slice-read-copy : tie.Need-shared-slice-read-copy Inv-loop μ-loop
 shared-slice-read-copy c = search needs
 
--- src/admit.rt:23:9
 mul-copy-2 : tie.Need-mul-copy-2 Inv-loop μ-loop
 mul-copy-2 c = search needs
 
--- src/admit.rt:23:9
 array-write-copy : tie.Need-array-write-copy Inv-loop μ-loop
 array-write-copy c = search needs
 
--- src/admit.rt:24:13
 add-i : tie.Need-add-i Inv-loop μ-loop
 add-i c = search needs
 
--- src/admit.rt:22:5
 loop-less : tie.Need-loop-less Inv-loop μ-loop
 loop-less c = search needs
 
--- src/admit.rt:22:5
 loop-again : tie.Need-loop-again Inv-loop μ-loop
 loop-again c = search (needs, words-laws)
 
--- src/admit.rt:16:1
 returns : tie.Need-returns Inv-loop μ-loop
 returns c = search (needs, words-laws)
 

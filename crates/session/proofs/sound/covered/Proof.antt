@@ -1,15 +1,13 @@
+-- `session::sound::covered` meets its contract. Assumes nothing.
+use Prim.Native.Nat.{_≤_, _-_}
 use mathlib.Core.Bool.{true}
 use mathlib.Core.Path.{_≡_}
-use Prim.Native.Nat.{_≤_, _-_}
-use Rattle.bounded.specs.All.{allTo, all-laws}
-use Rattle.session.specs.Soundness.{affords-row}
-use Rattle.session.specs.Sound.{affords}
 use borrow.Author.Needs.{needs}
+use Rattle.bounded.specs.All.{allTo, all-laws}
+use Rattle.session.specs.Sound.{affords}
+use Rattle.session.specs.Soundness.{affords-row}
 use Rattle.session.proofs.sound.covered.Statement.{statement}
 use Rattle.session.proofs.sound.covered.Tie as tie
-use Rattle.session.proofs.sound.covered.Reads as reads
-use Rattle.session.proofs.sound.covered.Lts as lts
-use Rattle.session.proofs.sound.covers.Reads as covers-reads
 
 abbrev Inv-loop : tie.InvT-loop
 Inv-loop c due n s rows i₀ i = (i ≤ rows) × (allTo (affords s c n) i ≡ true)
@@ -17,39 +15,30 @@ Inv-loop c due n s rows i₀ i = (i ≤ rows) × (allTo (affords s c n) i ≡ tr
 abbrev μ-loop : tie.MeasureT-loop
 μ-loop c due n s rows i₀ i = rows - i
 
--- src/sound.rt:45:5
 loop-holds : tie.Need-loop-holds Inv-loop μ-loop
 loop-holds c = search (needs, affords-row, all-laws)
 
--- src/sound.rt:46:17
 mul-j : tie.Need-mul-j Inv-loop μ-loop
 mul-j c = search needs
 
--- src/sound.rt:46:17
 element-copy-out-j : tie.Need-element-copy-out-j Inv-loop μ-loop
 element-copy-out-j c = search needs
 
--- src/sound.rt:47:12
 covers-requires : tie.Need-covers-requires Inv-loop μ-loop
 covers-requires c κs = search needs
 
--- src/sound.rt:48:17
 add-i : tie.Need-add-i Inv-loop μ-loop
 add-i c = search needs
 
--- src/sound.rt:45:5
 loop-less : tie.Need-loop-less Inv-loop μ-loop
 loop-less c = search needs
 
--- src/sound.rt:45:5
 loop-again : tie.Need-loop-again Inv-loop μ-loop
 loop-again c = search (needs, affords-row, all-laws)
 
--- src/sound.rt:50:13
 returns : tie.Need-returns Inv-loop μ-loop
 returns c = search (needs, affords-row, all-laws)
 
--- src/sound.rt:39:1
 returns-2 : tie.Need-returns-2 Inv-loop μ-loop
 returns-2 c = search (needs, affords-row, all-laws)
 

@@ -1,19 +1,15 @@
-use Rattle.session.specs.Ahead.{ahead-cases}
+-- `session::sound::is_ahead` meets its contract. Assumes nothing.
 use borrow.Author.Needs.{needs}
+use Rattle.session.specs.Ahead.{ahead-cases}
 use Rattle.session.proofs.sound.is_ahead.Statement.{statement}
 use Rattle.session.proofs.sound.is_ahead.Tie as tie
-use Rattle.session.proofs.sound.is_ahead.Reads as reads
-use Rattle.session.proofs.sound.is_ahead.Lts as lts
 
--- src/sound.rt:19:9
 returns : tie.Need-returns
 returns c = search (needs, ahead-cases)
 
--- src/sound.rt:22:9
 returns-2 : tie.Need-returns-2
 returns-2 c = search (needs, ahead-cases)
 
--- src/sound.rt:15:1
 returns-3 : tie.Need-returns-3
 returns-3 c = search (needs, ahead-cases)
 

@@ -1,0 +1,27 @@
+-- `calls::finish::finish` meets its contract. Assumes nothing.
+use borrow.Author.Needs.{needs}
+use Rattle.session.specs.Calls.{finishOf}
+use Rattle.session.specs.Guard.{guarded-laws}
+use Rattle.calls.proofs.finish.finish.Statement.{statement}
+use Rattle.calls.proofs.finish.finish.Tie as tie
+
+is-sound-requires : tie.Need-is-sound-requires
+is-sound-requires c κs = search needs
+
+finish-sound-requires : tie.Need-finish-sound-requires
+finish-sound-requires c κs = search (needs, guarded-laws)
+
+returns : tie.Need-returns
+unfolding finishOf
+returns c = search (needs, guarded-laws)
+
+refuse-requires : tie.Need-refuse-requires
+refuse-requires c κs = search needs
+
+returns-2 : tie.Need-returns-2
+unfolding finishOf
+returns-2 c = search (needs, guarded-laws)
+
+pub finish-spec : {M : Type 1} → statement M
+finish-spec =
+    tie.close (tie.spec is-sound-requires finish-sound-requires returns refuse-requires returns-2)

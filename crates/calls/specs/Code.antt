@@ -1,0 +1,240 @@
+-- The code of the calls: each way out is a case of its definition (docs/SPECIFICATION.md §5.3, §5.5, §5.6). Assumes nothing.
+use Prim.Native.Nat.{ℕ, _+_, _-_, _*_, _≤_, _<_}
+use mathlib.Core.Path.{_≡_, refl, sym, ap, _∙_}
+use mathlib.Core.Bool.{Bool, true, false, _||_, cond}
+use mathlib.Core.List.{List}
+use mathlib.Core.Logic.{_⊎_, inl, inr, ⊎-elim, dite}
+use native.Mathlib.Numerals.{add-one}
+use native.Mathlib.Omega.{arith}
+use native.Mathlib.Decide.{ℕ-discrete}
+use lib.Dec.{leb, ltb, eqb}
+use lib.IntN.{ℤ}
+use lib.ListN.{length, set}
+use mir.Syntax.{w64}
+use mir.Val.{Fits}
+use lib.Seq.{length-take-le}
+use borrow.Author.Tests.{lt-ltb, le-ltb, le-leb, lt-leb, eq-eqb, ne-eqb}
+use Rattle.bounded.specs.Fold.{foldTo}
+use Rattle.edf.specs.Demand.{TaskSet}
+use Rattle.table.specs.declared.rows.Task.{Task}
+use Rattle.table.specs.Rows.{horizon, tasksOf, FitRow, Fit}
+use Rattle.table.specs.Budgets.{budgetOf}
+use Rattle.session.specs.declared.Job.{Job}
+use Rattle.session.specs.declared.Session.{Session}
+use Rattle.session.specs.declared.Answer.{Answer}
+use Rattle.session.specs.declared.Answer.the-variants.{Arrived, Chosen, Advanced, Finished, Unsound, NoRow, TooEarly, InForce, NoChoice, BadStep, Idling, ClockEnd}
+use Rattle.session.specs.declared.Outcome.{Outcome}
+use Rattle.session.specs.Reading.{idle, clockEnd, jobAt, rowsOf, tasks, ahead, startBy, startBudget}
+use Rattle.session.specs.Sound.{sound}
+use Rattle.session.specs.Facts.{Facts, Choice, Running, facts-of, facts-fit}
+use Rattle.session.specs.Ahead.{aheadBy, DueOf, ahead-is}
+use Rattle.session.specs.Soundness.{rows-count}
+use Rattle.session.specs.Calls.{refused, accepted, changed, guarded, arrivedJob, arriveIn, arriveOf, overJob, agedJob, agedJobs, overAfter, advanceIn, advanceOf, finishIn, finishOf, chooseIn, chooseOf}
+
+-- ---- what soundness gives the code
+
+pub facts-rows : (s : Session) (i : ℕ) → Facts s → length (s .words) ≡ 48 → i < s .count → Fit (tasks s) × (i < tasks s .rows)
+facts-rows s i f places l = (facts-fit s f, omega (arith, rows-count s (f .few) places))
+
+-- a choice is in force
+pub record ChoiceBounds (s : Session) : Type 0 where
+  pub few : s .count ≤ 16
+  pub row : (s .chosen ≡ idle → ⊥) → s .chosen < 16
+  pub small : s .span ≤ horizon
+  pub clock : s .clock ≤ clockEnd
+
+pub in-force : (s : Session) → sound s ≡ true → (s .span ≡ 0 → ⊥) → ChoiceBounds s
+in-force s e ne = let f = facts-of s e in ⊎-elim (λ z. absurd (ne z)) (λ c. made f c) (f .choice)
+  where
+    made : Facts s → Choice s → ChoiceBounds s
+    made f c = record {
+      few = f .few;
+      row = λ no-idle. ⊎-elim (λ z. absurd (no-idle z)) (λ (r : Running s). omega (arith, r .known, f .few)) (c .runs);
+      small = c .small;
+      clock = f .clock;
+    }
+
+-- the rows that the code reads are places of the record
+pub row-place : (s : Session) (row : ℕ) → sound s ≡ true → row < s .count → row < 16
+row-place s row e l = let f = facts-of s e in omega (arith, f .few)
+
+pub bounds-place : (s : Session) → ChoiceBounds s → (s .chosen ≡ idle → ⊥) → s .chosen < 16
+bounds-place s b ne = b .row ne
+
+pub chosen-place : (s : Session) → sound s ≡ true → (s .span ≡ 0 → ⊥) → (s .chosen ≡ idle → ⊥) → s .chosen < 16
+chosen-place s e n ne = in-force s e n .row ne
+
+-- where a place's job begins, of 32 bytes each
+pub place-fits : (i : ℕ) → i < 16 → Fits w64 (i * 32)
+place-fits i l = record { fits = omega arith }
+
+pub ruleset places = (row-place, bounds-place, chosen-place, place-fits)
+
+-- a step of the clock does not wrap
+pub step-fits : (s : Session) (n : ℕ) → sound s ≡ true → (s .span ≡ 0 → ⊥) → n ≤ s .span → Fits w64 (s .clock + n)
+step-fits s n e ne l = let b = in-force s e ne in record { fits = omega (arith, b .clock, b .small) }
+
+-- ---- arrive
+
+-- w is what the machine reads back of V
+pub arrived-is : (s : Session) (i start : ℕ) (k : Task) (v w : ℤ) → FitRow (tasks s) i k → v ≡ budgetOf (tasks s) i → w ≡ v → start ≡ startBy (s .kind) w
+    → record { next = s .clock + k .period; due = s .clock + k .deadline; left = k .run; budget = start } ≡ arrivedJob s i
+unfolding startBudget
+arrived-is s i start k v w f e r g = let u = f .row in rw (u .period, u .deadline, u .run, g, r, e)
+
+module _ (s : Session) (row : ℕ) where
+  pub arrive-unknown : (o : Outcome) → s .count ≤ row → o ≡ refused s (NoRow row) → o ≡ arriveIn s row
+  unfolding arriveIn
+  arrive-unknown o h e = e ∙ sym (simp (le-leb (s .count) row h))
+
+  pub arrive-early : (o : Outcome) → row < s .count → s .clock < jobAt s row .next → o ≡ refused s (TooEarly row (jobAt s row .next)) → o ≡ arriveIn s row
+  unfolding arriveIn
+  arrive-early o h l e = e ∙ sym (simp (lt-leb (s .count) row h, lt-ltb (s .clock) (jobAt s row .next) l))
+
+  pub arrive-done : (k : Job) → row < s .count → jobAt s row .next ≤ s .clock → k ≡ arrivedJob s row
+      → record { answer = Arrived row (k .due); used = 0; session = changed s (s .clock) (set (s .jobs) row k) 0 0 } ≡ arriveIn s row
+  unfolding arriveIn
+  arrive-done k h l e =
+      ap (λ (k : Job). record { answer = Arrived row (k .due); used = 0; session = changed s (s .clock) (set (s .jobs) row k) 0 0 }) e
+      ∙ sym (simp (lt-leb (s .count) row h, le-ltb (s .clock) (jobAt s row .next) l))
+
+pub ruleset arrive-cases = (arrive-unknown, arrive-early, arrive-done)
+
+-- ---- finish
+
+module _ (s : Session) where
+  pub finish-none : (o : Outcome) → s .span ≡ 0 → o ≡ refused s NoChoice → o ≡ finishIn s
+  unfolding finishIn
+  finish-none o h e = e ∙ sym (simp (eq-eqb (s .span) 0 h))
+
+  pub finish-idle : (o : Outcome) → (s .span ≡ 0 → ⊥) → s .chosen ≡ idle → o ≡ refused s Idling → o ≡ finishIn s
+  unfolding finishIn
+  finish-idle o h c e = e ∙ sym (simp (ne-eqb (s .span) 0 h, eq-eqb (s .chosen) idle c))
+
+  pub finish-done : (s .span ≡ 0 → ⊥) → (s .chosen ≡ idle → ⊥)
+      → record {
+        answer = Finished (s .chosen) (jobAt s (s .chosen) .left);
+        used = 0;
+        session = changed s (s .clock) (set (s .jobs) (s .chosen) (overJob s (s .chosen))) 0 0;
+      } ≡ finishIn s
+  unfolding finishIn
+  finish-done h c = sym (simp (ne-eqb (s .span) 0 h, ne-eqb (s .chosen) idle c))
+
+pub ruleset finish-cases = (finish-none, finish-idle, finish-done)
+
+-- ---- advance
+
+pub due-idle : (s : Session) (d : ℕ) → s .chosen ≡ idle → DueOf s (s .chosen) d
+due-idle s d e = record { is = λ ne. absurd (ne e) }
+
+pub due-row : (s : Session) (d : ℕ) → d ≡ jobAt s (s .chosen) .due → DueOf s (s .chosen) d
+due-row s d e = record { is = λ ne. e }
+
+-- row i's job j after n ticks of c
+unfoldable pub agedBy : Job → ℕ → ℕ → ℕ → ℕ → Job
+agedBy j i c due n =
+    cond (eqb i c)
+    (cond (eqb (j .left) n) record { next = j .next; due = 0; left = 0; budget = 0 }
+    record { next = j .next; due = j .due; left = j .left - n; budget = j .budget })
+    (cond (aheadBy j c due) record { next = j .next; due = j .due; left = j .left; budget = j .budget - n } j)
+
+module _ (j : Job) (i c due n : ℕ) where
+  pub aged-over : i ≡ c → j .left ≡ n → record { next = j .next; due = 0; left = 0; budget = 0 } ≡ agedBy j i c due n
+  unfolding agedBy
+  aged-over e f = simp (eq-eqb i c e, eq-eqb (j .left) n f)
+
+  pub aged-runs : (x : ℕ) → i ≡ c → (j .left ≡ n → ⊥) → x ≡ j .left - n → record { next = j .next; due = j .due; left = x; budget = j .budget } ≡ agedBy j i c due n
+  unfolding agedBy
+  aged-runs x e f g = simp (eq-eqb i c e, ne-eqb (j .left) n f, g)
+
+  pub aged-loses : (x : ℕ) (b : Bool) → (i ≡ c → ⊥) → b ≡ aheadBy j c due → b ≡ true → x ≡ j .budget - n
+      → record { next = j .next; due = j .due; left = j .left; budget = x } ≡ agedBy j i c due n
+  unfolding agedBy
+  aged-loses x b e f t g = simp (ne-eqb i c e, sym f ∙ t, g)
+
+  pub aged-keeps : (b : Bool) → (i ≡ c → ⊥) → b ≡ aheadBy j c due → b ≡ false → j ≡ agedBy j i c due n
+  unfolding agedBy
+  aged-keeps b e f t = simp (ne-eqb i c e, sym f ∙ t)
+
+pub ruleset aged-cases = (aged-over, aged-runs, aged-loses, aged-keeps)
+
+aged-row : (s : Session) (due n i : ℕ) → DueOf s (s .chosen) due → agedBy (jobAt s i) i (s .chosen) due n ≡ agedJob s n i
+unfolding agedBy agedJob
+aged-row s due n i d = rw (ahead-is s (s .chosen) due d i)
+
+-- the loop over the rows
+abbrev pub agedTo : Session → ℕ → ℕ → Session
+agedTo s n i = changed s (s .clock) (agedJobs s n i) (s .chosen) (s .span)
+
+pub aged-start : (s : Session) (n : ℕ) → s ≡ agedTo s n 0
+unfolding agedJobs foldTo
+aged-start s n = refl
+
+pub aged-next : (s q : Session) (n i due : ℕ) (k : Job) → q ≡ agedTo s n i → DueOf s (s .chosen) due → k ≡ agedBy (jobAt s i) i (s .chosen) due n
+    → changed q (q .clock) (set (q .jobs) i k) (q .chosen) (q .span) ≡ agedTo s n (i + 1)
+unfolding agedJobs foldTo
+aged-next s q n i due k e d f =
+    rw (add-one, e) (ap (λ (k : Job). changed s (s .clock) (set (agedJobs s n i) i k) (s .chosen) (s .span)) (f ∙ aged-row s due n i d))
+
+pub aged-done : (s q : Session) (n i m : ℕ) → q ≡ agedTo s n i → i ≤ m → m ≤ i → m ≡ s .count → q ≡ agedTo s n (s .count)
+aged-done s q n i m e l h k = let j : i ≡ s .count = omega arith in e ∙ ap (agedTo s n) j
+
+pub ruleset aged-laws = (aged-start, aged-next, aged-done)
+
+module _ (s : Session) (n : ℕ) where
+  pub over-idle : s .chosen ≡ idle → 0 ≡ overAfter s n
+  unfolding overAfter
+  over-idle e = simp (eq-eqb (s .chosen) idle e)
+
+  pub over-yes : (s .chosen ≡ idle → ⊥) → jobAt s (s .chosen) .left ≡ n → 1 ≡ overAfter s n
+  unfolding overAfter
+  over-yes e f = simp (ne-eqb (s .chosen) idle e, eq-eqb (jobAt s (s .chosen) .left) n f)
+
+  pub over-not : (s .chosen ≡ idle → ⊥) → (jobAt s (s .chosen) .left ≡ n → ⊥) → 0 ≡ overAfter s n
+  unfolding overAfter
+  over-not e f = simp (ne-eqb (s .chosen) idle e, ne-eqb (jobAt s (s .chosen) .left) n f)
+
+  pub advance-none : (o : Outcome) → s .span ≡ 0 → o ≡ refused s NoChoice → o ≡ advanceIn s n
+  unfolding advanceIn
+  advance-none o h e = e ∙ sym (simp (eq-eqb (s .span) 0 h))
+
+  module _ (a : s .span ≡ 0 → ⊥) where
+    pub advance-zero : (o : Outcome) → n ≡ 0 → o ≡ refused s (BadStep (s .span)) → o ≡ advanceIn s n
+    unfolding advanceIn
+    advance-zero o h e = e ∙ sym (simp (ne-eqb (s .span) 0 a, eq-eqb n 0 h))
+
+    module _ (b : n ≡ 0 → ⊥) where
+      pub advance-long : (o : Outcome) → s .span < n → o ≡ refused s (BadStep (s .span)) → o ≡ advanceIn s n
+      unfolding advanceIn
+      advance-long o h e = e ∙ sym (simp (ne-eqb (s .span) 0 a, ne-eqb n 0 b, lt-ltb (s .span) n h))
+
+      module _ (c : n ≤ s .span) where
+        pub advance-end : (o : Outcome) → clockEnd < s .clock + n → o ≡ refused s ClockEnd → o ≡ advanceIn s n
+        unfolding advanceIn
+        advance-end o h e =
+            e ∙ sym (simp (ne-eqb (s .span) 0 a, ne-eqb n 0 b, le-ltb (s .span) n c, lt-ltb clockEnd (s .clock + n) h))
+
+        module _ (d : s .clock + n ≤ clockEnd) (q : Session) (x : ℕ) (g : q ≡ agedTo s n (s .count)) (h : x ≡ overAfter s n) where
+          abbrev outcome : ℕ → Outcome
+          outcome k = record {
+            answer = Advanced (s .span - n) x;
+            used = 0;
+            session = changed q (s .clock + n) (q .jobs) k (s .span - n);
+          }
+
+          advanced : (k : ℕ) → k ≡ cond (eqb (s .span) n) 0 (s .chosen) → outcome k ≡ advanceIn s n
+          unfolding advanceIn
+          advanced k e =
+              rw (g, h, e)
+              (sym (simp (ne-eqb (s .span) 0 a, ne-eqb n 0 b, le-ltb (s .span) n c, le-ltb clockEnd (s .clock + n) d)))
+
+          pub advance-last : s .span - n ≡ 0 → outcome 0 ≡ advanceIn s n
+          advance-last z = advanced 0 (sym (simp (eq-eqb (s .span) n (omega arith))))
+
+          pub advance-more : (s .span - n ≡ 0 → ⊥) → outcome (q .chosen) ≡ advanceIn s n
+          advance-more ne =
+              advanced (q .chosen) (ap (λ z. z .chosen) g ∙ sym (simp (ne-eqb (s .span) n (λ e. ne (omega arith)))))
+
+pub ruleset over-cases = (over-idle, over-yes, over-not)
+
+pub ruleset advance-cases = (advance-none, advance-zero, advance-long, advance-end, advance-last, advance-more)

@@ -1,0 +1,71 @@
+// A job of a row arrives (docs/SPECIFICATION.md §5.3).
+ghost use mathlib.Core.Path.{_≡_};
+ghost use mathlib.Core.Bool.{true};
+ghost use Prim.Native.Nat.{_<_};
+ghost use Rattle.session.specs.Sound.{sound};
+ghost use Rattle.session.specs.Facts.{Facts};
+ghost use Rattle.session.specs.Calls.{arrivedJob, arriveIn, arriveOf};
+use session::Answer;
+use session::Job;
+use session::Outcome;
+use session::Session;
+use session::refuse;
+use session::sound::is_sound;
+use session::sound::start_budget;
+
+// The job that arrives now in row i.
+fn arriving(s: Session, i: usize) -> Job
+    requires { ⌜ Facts s × (i < s .count) ⌝ }
+    ensures { λ r. ⌜ r ≡ arrivedJob s i ⌝ }
+{
+    let n = s.count as usize;
+    let clock = s.clock;
+    let words = s.words;
+    let e = 3 * n;
+    let rows = &words[..e];
+    let k = table::rows::fit_row(rows, i);
+    let v = table::budgets::budget(rows, i);
+    let start = start_budget(s.kind, v);
+    Job {
+        next: clock + k.period,
+        due: clock + k.deadline,
+        left: k.run,
+        budget: start,
+    }
+}
+
+// For callers who can prove that the session is sound.
+pub fn arrive_sound(s: Session, row: u64) -> Outcome
+    requires { ⌜ sound s ≡ true ⌝ }
+    ensures { λ r. ⌜ r ≡ arriveIn s row ⌝ }
+{
+    let count = s.count;
+    if count <= row {
+        return refuse(s, Answer::NoRow(row));
+    }
+    let i = row as usize;
+    let clock = s.clock;
+    let j = s.jobs[i];
+    if clock < j.next {
+        return refuse(s, Answer::TooEarly { row, next: j.next });
+    }
+    let k = arriving(s, i);
+    let mut q = s;
+    q.jobs[i] = k;
+    q.chosen = 0;
+    q.span = 0;
+    Outcome {
+        answer: Answer::Arrived { row, due: k.due },
+        used: 0,
+        session: q,
+    }
+}
+
+pub fn arrive(s: Session, row: u64) -> Outcome
+    ensures { λ r. ⌜ r ≡ arriveOf s row ⌝ }
+{
+    if is_sound(s) {
+        return arrive_sound(s, row);
+    }
+    refuse(s, Answer::Unsound)
+}
