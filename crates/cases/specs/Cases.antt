@@ -1,11 +1,11 @@
--- The marked tables of document 01 (docs/SPECIFICATION.md §7), as one table of cases and one theorem. Assumes nothing.
-use Prim.Native.Nat.{ℕ}
+-- The marked tables and moments (docs/SPECIFICATION.md §7), as one table of cases and one theorem. Assumes nothing.
+use Prim.Native.Nat.{ℕ, zero, suc, _-_, _/_}
 use mathlib.Core.Path.{_≡_, refl}
-use mathlib.Core.Bool.{true}
+use mathlib.Core.Bool.{Bool, true, false}
 use native.Mathlib.Omega.{arith}
-use mathlib.Core.List.{List, [], _∷_, map}
+use mathlib.Core.List.{List, [], _∷_, _++_}
 use lib.IntN.{ℤ, pos, negℤ}
-use lib.ListN.{take}
+use lib.ListN.{length, take, drop, replicate}
 use Rattle.bounded.specs.Tests.{gate}
 use Rattle.bounded.specs.Sum.{sumTo}
 use Rattle.bounded.specs.Fold.{foldTo}
@@ -18,6 +18,15 @@ use Rattle.table.specs.Rows.{tasksOf, rowRule, broken, firstBroken}
 use Rattle.table.specs.Budgets.{budgetOf, looseTo, loose, valuesTo, valuesOf}
 use Rattle.table.specs.Busy.{busyLength}
 use Rattle.table.specs.Verdict.{badLength, firstOverload, overloaded, opinionOf, answerOf}
+use Rattle.session.specs.declared.Job.{Job}
+use Rattle.session.specs.declared.Session.{Session}
+use Rattle.session.specs.Reading.{idle, noJob, rowsOf, waits, ahead, startBy, startBudget}
+use Rattle.session.specs.Sound.{soundRows, soundWaiting, soundJob, runs, affords, soundChoice, sound}
+use Rattle.session.specs.Order.{before, isHead, headOf, permits, candidate, candidates, position, rowWith, candidateAt}
+use Rattle.session.specs.Choose.{draw, drawn, pickOf, room, unopposed, lengthDrawn, spanOf, pickUsed, usedOf}
+use Rattle.session.specs.Calls.{Shown, shown, three, arriveIn, chooseIn, agedJob, agedJobs, overAfter, advanceIn, finishIn, arriveOf, chooseOf, advanceOf, finishOf}
+use Rattle.guarantee.specs.Ledger.{Call, arrive, choose, advance, finish}
+use Rattle.guarantee.specs.Statement.{outcomeOf}
 use Rattle.table.specs.Compute.{quietTo, busy-is, not-overloaded, first-over, is-overloaded, answer-over, answer-tight}
 
 -- what is asked of the definitions
@@ -29,19 +38,36 @@ pub data Question : Type 0 where
   busy : List ℕ → Question
   -- the first t of the compared range whose demand exceeds it, and that demand
   exceeded : List ℕ → Question
+  -- whether each of the first n rows of a session is a candidate, and then whether idle is one
+  chosenFrom : Session → ℕ → Question
+  -- a call on a session
+  called : Session → Call → Question
 
--- a number and two values, whole numbers, one number, two numbers
+-- what the definitions give
 pub data Reply : Type 0 where
   answer : ℕ → ℕ → ℕ → Reply
   values : List ℤ → Reply
-  length : ℕ → Reply
+  ticks : ℕ → Reply
   tick : ℕ → ℕ → Reply
+  flags : List Bool → Reply
+  -- an answer's number and values, the words used, and the session left
+  outcome : Shown → ℕ → Session → Reply
+
+abbrev candidatesTo : Session → ℕ → List Bool
+candidatesTo s zero = permits s idle ∷ []
+candidatesTo s (suc n) = candidatesFrom s n (permits s idle ∷ [])
+  where
+    candidatesFrom : Session → ℕ → List Bool → List Bool
+    candidatesFrom s zero l = candidate s 0 ∷ l
+    candidatesFrom s (suc n) l = candidatesFrom s n (candidate s (suc n) ∷ l)
 
 abbrev pub reply : Question → Reply
 reply (verdict l t) = answer (answerOf l t .number) (answerOf l t .first) (answerOf l t .second)
 reply (budgets l) = values (take (tasksOf l .rows) (valuesOf (tasksOf l)))
-reply (busy l) = length (busyLength (tasksOf l))
+reply (busy l) = ticks (busyLength (tasksOf l))
 reply (exceeded l) = tick (firstOverload (tasksOf l)) (demand (tasksOf l) (firstOverload (tasksOf l)))
+reply (chosenFrom s n) = flags (candidatesTo s n)
+reply (called s c) = outcome (shown (outcomeOf s c .answer)) (outcomeOf s c .used) (outcomeOf s c .session)
 
 pub record Case : Type 0 where
   pub asked : Question
@@ -69,21 +95,89 @@ over = 1 ∷ 2 ∷ 2 ∷ 2 ∷ 3 ∷ 3 ∷ []
 abbrev wrong : List ℕ
 wrong = 3 ∷ 5 ∷ 2 ∷ []
 
+-- a session of a few rows: its table, the rows' jobs, the clock and the choice
+abbrev session : List ℕ → List Job → ℕ → ℕ → ℕ → Session
+session l jobs clock c n = record {
+  clock = clock;
+  kind = 1;
+  count = length l / 3;
+  words = l ++ replicate (48 - length l) 0;
+  jobs = jobs ++ replicate (16 - length jobs) noJob;
+  chosen = c;
+  span = n;
+}
+
+abbrev job : ℕ → ℕ → ℕ → ℕ → Job
+job next due left budget = record { next = next; due = due; left = left; budget = budget }
+
+-- deadlines 10, 10, 20 with budgets 3, 0, 4
+abbrev equal : Session
+equal =
+    session (1 ∷ 10 ∷ 10 ∷ 1 ∷ 10 ∷ 10 ∷ 1 ∷ 20 ∷ 20 ∷ []) (job 10 10 1 3 ∷ job 10 10 1 0 ∷ job 20 20 1 4 ∷ []) 0 0 0
+
+-- the listing's table, and its sessions from call to call
+abbrev listing : List ℕ
+listing = 2 ∷ 10 ∷ 10 ∷ 3 ∷ 20 ∷ 15 ∷ []
+
+abbrev at : Job → Job → ℕ → ℕ → ℕ → Session
+at a b clock c n = session listing (a ∷ b ∷ []) clock c n
+
+abbrev s₀ : Session
+s₀ = at noJob noJob 0 0 0
+
+abbrev s₁ : Session
+s₁ = at (job 10 10 2 5) noJob 0 0 0
+
+abbrev s₂ : Session
+s₂ = at (job 10 10 2 5) (job 20 15 3 8) 0 0 0
+
+abbrev s₃ : Session
+s₃ = at (job 10 10 2 5) (job 20 15 3 8) 0 1 1
+
+abbrev s₄ : Session
+s₄ = at (job 10 10 2 4) (job 20 15 2 8) 1 0 0
+
+abbrev s₅ : Session
+s₅ = at (job 10 10 2 4) (job 20 15 2 8) 1 16 2
+
+abbrev s₆ : Session
+s₆ = at (job 10 10 2 2) (job 20 15 2 6) 3 0 0
+
+abbrev s₇ : Session
+s₇ = at (job 10 10 2 2) (job 20 15 2 6) 3 0 2
+
+abbrev s₈ : Session
+s₈ = at (job 10 10 1 2) (job 20 15 2 6) 4 0 1
+
+abbrev s₉ : Session
+s₉ = at (job 10 0 0 0) (job 20 15 2 6) 4 0 0
+
 pub cases : List Case
 cases =
     is (verdict easy 0) (answer 0 1 3)
     ∷ is (budgets easy) (values (pos 3 ∷ pos 8 ∷ pos 0 ∷ []))
     ∷ is (verdict heavy 0) (answer 0 2 4)
     ∷ is (budgets heavy) (values (pos 1 ∷ pos 3 ∷ negℤ (pos 3) ∷ negℤ (pos 2) ∷ []))
-    ∷ is (busy heavy) (length 9)
+    ∷ is (busy heavy) (ticks 9)
     ∷ is (verdict long 0) (answer 0 2 4)
-    ∷ is (busy long) (length 80)
+    ∷ is (busy long) (ticks 80)
     ∷ is (verdict full 0) (answer 0 1 1)
     ∷ is (budgets full) (values (pos 0 ∷ []))
     ∷ is (verdict over 6) (answer 3 6 7)
     ∷ is (exceeded over) (tick 6 7)
     ∷ is (verdict wrong 0) (answer 2 0 0)
     ∷ is (verdict [] 0) (answer 1 0 0)
+    ∷ is (chosenFrom equal 3) (flags (true ∷ true ∷ false ∷ false ∷ []))
+    ∷ is (called s₀ (arrive 0)) (outcome (three 0 0 10) 0 s₁)
+    ∷ is (called s₁ (arrive 1)) (outcome (three 0 1 15) 0 s₂)
+    ∷ is (called s₂ (choose (4 ∷ 9 ∷ []))) (outcome (three 0 1 1) 2 s₃)
+    ∷ is (called s₃ (advance 1)) (outcome (three 0 0 0) 0 s₄)
+    ∷ is (called s₄ (choose (2 ∷ 5 ∷ []))) (outcome (three 0 16 2) 2 s₅)
+    ∷ is (called s₅ (advance 2)) (outcome (three 0 0 0) 0 s₆)
+    ∷ is (called s₆ (choose (3 ∷ []))) (outcome (three 0 0 2) 1 s₇)
+    ∷ is (called s₇ (advance 1)) (outcome (three 0 1 0) 0 s₈)
+    ∷ is (called s₈ finish) (outcome (three 0 0 1) 0 s₉)
+    ∷ is (called s₉ (arrive 0)) (outcome (three 7 0 10) 0 s₉)
     ∷ []
 
 -- ---- the tables that are not loose, computed up to the tick that decides them
@@ -129,6 +223,9 @@ All [] = Unit
 All (c ∷ l) = Holds c × All l
 
 pub every-case : All cases
-unfolding cases answerOf opinionOf badLength firstBroken broken rowRule tasksOf loose looseTo allTo budgetOf valuesOf valuesTo foldTo interference demand request sumTo gate jobsBy ceilDiv leastFrom
+unfolding cases answerOf opinionOf badLength firstBroken broken rowRule tasksOf loose looseTo allTo budgetOf valuesOf valuesTo foldTo interference demand request sumTo gate jobsBy ceilDiv leastFrom rowsOf waits ahead startBy startBudget soundRows soundWaiting soundJob runs affords soundChoice sound before isHead headOf permits candidate candidates position rowWith candidateAt draw drawn pickOf room unopposed lengthDrawn spanOf pickUsed usedOf arriveIn chooseIn agedJob agedJobs overAfter advanceIn finishIn arriveOf chooseOf advanceOf finishOf
 every-case =
-    (refl, (refl, (heavy-verdict, (refl, (rw heavy-busy, (long-verdict, (rw long-busy, (refl, (refl, (over-verdict, (over-exceeded, (refl, (refl, tt)))))))))))))
+    (refl, (refl, (heavy-verdict, (refl, (rw heavy-busy, (long-verdict, (rw long-busy, (refl, (refl, (over-verdict, (over-exceeded, (refl, (refl, listed)))))))))))))
+  where
+    listed : All (drop 13 cases)
+    listed = (refl, (refl, (refl, (refl, (refl, (refl, (refl, (refl, (refl, (refl, (refl, tt)))))))))))

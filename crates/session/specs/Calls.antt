@@ -1,6 +1,7 @@
 -- The four calls (docs/SPECIFICATION.md §5.3 to §5.7). Assumes nothing.
 use Prim.Native.Nat.{ℕ, _+_, _-_}
-use mathlib.Core.Bool.{Bool, _&&_, _||_, cond}
+use mathlib.Core.Path.{_≡_}
+use mathlib.Core.Bool.{_||_, cond}
 use mathlib.Core.List.{List}
 use lib.Dec.{leb, ltb, eqb}
 use lib.ListN.{set}
@@ -8,6 +9,7 @@ use Rattle.bounded.specs.Fold.{foldTo}
 use Rattle.table.specs.Rows.{horizon}
 use Rattle.session.specs.declared.Job.{Job}
 use Rattle.session.specs.declared.Session.{Session}
+use Rattle.session.specs.declared.Numbers.{Numbers}
 use Rattle.session.specs.declared.Answer.{Answer}
 use Rattle.session.specs.declared.Answer.the-variants.{Arrived, Chosen, Advanced, Finished, Unsound, NoRow, TooEarly, InForce, NoChoice, BadStep, Idling, ClockEnd}
 use Rattle.session.specs.declared.Outcome.{Outcome}
@@ -21,7 +23,7 @@ pub record Shown : Type 0 where
   pub first : ℕ
   pub second : ℕ
 
-abbrev three : ℕ → ℕ → ℕ → Shown
+abbrev pub three : ℕ → ℕ → ℕ → Shown
 three n a b = record { number = n; first = a; second = b }
 
 abbrev pub shown : Answer → Shown
@@ -37,6 +39,12 @@ shown NoChoice = three 9 0 0
 shown (BadStep left) = three 10 left 0
 shown Idling = three 11 0 0
 shown ClockEnd = three 12 clockEnd 0
+
+-- n has these numbers
+pub record Shows (a : Shown) (n : Numbers) : Type 0 where
+  pub number : n .number ≡ a .number
+  pub first : n .first ≡ a .first
+  pub second : n .second ≡ a .second
 
 -- a refused call leaves the same session and uses no word
 abbrev pub refused : Session → Answer → Outcome

@@ -1,7 +1,7 @@
 // The session: a value that goes in and comes back with each call (docs/SPECIFICATION.md §5).
 
 ghost use mathlib.Core.Path.{_≡_};
-ghost use Rattle.session.specs.Calls.{refused};
+ghost use Rattle.session.specs.Calls.{refused, shown, three, Shows};
 ghost use Rattle.session.specs.Admit.{freshOf, noSession};
 
 pub mod admit;
@@ -32,7 +32,7 @@ pub struct Session {
     pub span: u64,
 }
 
-// What a call answers (§5.7; `shown` gives the number and two values of each).
+// What a call answers (§5.7; `show` gives the number and two values of each).
 pub enum Answer {
     Arrived { row: u64, due: u64 },
     Chosen { row: u64, span: u64 },
@@ -54,6 +54,43 @@ pub enum Answer {
     Idling,
     // 12: the clock would pass its end.
     ClockEnd,
+}
+
+// What a reader of numbers sees of an answer: its number, 0 where the call is accepted, and two values.
+#[repr(C)]
+pub struct Numbers {
+    pub number: u64,
+    pub first: u64,
+    pub second: u64,
+}
+
+fn triple(number: u64, first: u64, second: u64) -> Numbers
+    ensures { λ r. ⌜ Shows (three number first second) r ⌝ }
+{
+    Numbers {
+        number,
+        first,
+        second,
+    }
+}
+
+pub fn show(answer: Answer) -> Numbers
+    ensures { λ r. ⌜ Shows (shown answer) r ⌝ }
+{
+    match answer {
+        Answer::Arrived { row, due } => triple(0, row, due),
+        Answer::Chosen { row, span } => triple(0, row, span),
+        Answer::Advanced { left, over } => triple(0, left, over),
+        Answer::Finished { row, unused } => triple(0, row, unused),
+        Answer::Unsound => triple(5, 0, 0),
+        Answer::NoRow(row) => triple(6, row, 0),
+        Answer::TooEarly { row, next } => triple(7, row, next),
+        Answer::InForce(left) => triple(8, left, 0),
+        Answer::NoChoice => triple(9, 0, 0),
+        Answer::BadStep(left) => triple(10, left, 0),
+        Answer::Idling => triple(11, 0, 0),
+        Answer::ClockEnd => triple(12, Session::CLOCK_END, 0),
+    }
 }
 
 // The answer, how many words a choice used, and the session that the call leaves.
