@@ -50,12 +50,27 @@ climb-next f cap r n m c e h = record {
 pub climb-more : (f : ℕ → ℕ) (cap r n : ℕ) → Climbing f cap r → n ≡ f r → (n ≡ r → ⊥) → r < n
 climb-more f cap r n c e h = omega (arith, c .up)
 
--- the two ways in which the loop ends
+-- the loop may go on from any x past f r that no fixed point from r on is below, and that f does not lower
+pub climb-far : (f : ℕ → ℕ) (cap r n x : ℕ) → Climbing f cap r → n ≡ f r → n ≤ x → ((q : ℕ) → r ≤ q → f q ≡ q → x ≤ q)
+    → (r ≤ x → x ≤ cap → x ≤ f x) → x ≤ cap → Climbing f cap x
+climb-far f cap r n x c e m under up h = record {
+  low = omega (arith, c .low, c .up);
+  high = h;
+  up = up (omega (arith, c .up)) h;
+  under = λ q p y. under q (c .under q p y) y;
+}
+
+-- the ways in which the loop ends
 pub climb-least : (f : ℕ → ℕ) (cap r n : ℕ) → Climbing f cap r → n ≡ f r → n ≡ r → r ≡ leastFixed f cap
 unfolding leastFixed
 climb-least f cap r n c e h =
     least-found (λ r. eqb (f r) r) 1 cap r (c .low) (omega (arith, c .high)) (eq-eqb (f r) r (omega arith))
     (λ j l k. ne-eqb (f j) j (λ x. omega (arith, c .under j l x)))
+
+pub climb-past : (f : ℕ → ℕ) (cap r x : ℕ) → Climbing f cap r → ((q : ℕ) → r ≤ q → f q ≡ q → x ≤ q) → cap < x → 1 + cap ≡ leastFixed f cap
+unfolding leastFixed
+climb-past f cap r x c under h =
+    least-none (λ r. eqb (f r) r) 1 cap (λ j l k. ne-eqb (f j) j (λ y. omega (arith, under j (c .under j l y) y)))
 
 pub climb-passed : (f : ℕ → ℕ) (cap r n : ℕ) → Mono f → Climbing f cap r → n ≡ f r → cap < n → 1 + cap ≡ leastFixed f cap
 unfolding leastFixed

@@ -1,12 +1,14 @@
 -- The busy length of a table (docs/SPECIFICATION.md §2.4), and the loop that finds it. Assumes nothing.
 use Prim.Native.Nat.{ℕ, _+_, _≤_, _<_}
 use mathlib.Core.Path.{_≡_}
+use mathlib.Core.Logic.{⊎-elim}
 use native.Mathlib.Omega.{arith}
-use Rattle.bounded.specs.Fixed.{leastFixed, Mono, Climbing, climb-start, climb-next, climb-more, climb-least, climb-passed}
+use Rattle.bounded.specs.Fixed.{leastFixed, Climbing, climb-start, climb-far, climb-more, climb-least, climb-past}
 use Rattle.edf.specs.Demand.{TaskSet, request, request-mono, request-pos}
 use Rattle.table.specs.declared.busy.Busy.{Busy}
 use Rattle.table.specs.Rows.{horizon, Fit, fit-lawful}
 use Rattle.table.specs.Bound.{Within}
+use Rattle.table.specs.Leap.{Leap, Further}
 
 -- the least r ≥ 1 that equals the sum over all rows of C times (r divided by T, rounded up); 1,000,001 where there is none
 -- up to 1,000,000
@@ -31,14 +33,26 @@ module _ (τ : TaskSet) (fit : Fit τ) where
   }
 
   module _ (r n x : ℕ) (t : Turn τ r n) (w : Within 16000000000000 (request τ r) x) where
-    pub busy-next : (x ≡ r → ⊥) → x ≤ horizon → Turn τ x (n + 1)
-    busy-next ne h = record {
-      climbs = climb-next (request τ) horizon r x (request-mono τ (fit-lawful τ fit)) (t .climbs) (w .is) h;
-      counted = omega (arith, climb-more (request τ) horizon r x (t .climbs) (w .is) ne);
+    far : (y : ℕ) → Further τ r x y → (q : ℕ) → r ≤ q → request τ q ≡ q → y ≤ q
+    far y g q l e =
+        ⊎-elim (λ z. omega (arith, w .is, request-mono τ (fit-lawful τ fit) r q l)) (λ (b : Leap τ r y). b .under q l e) (g .leap)
+
+    rises : (y : ℕ) → Further τ r x y → r ≤ y → y ≤ horizon → y ≤ request τ y
+    rises y g l h =
+        ⊎-elim
+        (λ z.
+        let m : request τ r ≤ request τ y = request-mono τ (fit-lawful τ fit) r y l in
+        omega (arith, w .is))
+        (λ (b : Leap τ r y). b .up l h) (g .leap)
+
+    pub busy-next : (y : ℕ) → (x ≡ r → ⊥) → Further τ r x y → y ≤ horizon → Turn τ y (n + 1)
+    busy-next y ne g h = record {
+      climbs = climb-far (request τ) horizon r x y (t .climbs) (w .is) (g .more) (far y g) (rises y g) h;
+      counted = omega (arith, climb-more (request τ) horizon r x (t .climbs) (w .is) ne, g .more);
     }
 
-    pub busy-more : (x ≡ r → ⊥) → r < x
-    busy-more ne = climb-more (request τ) horizon r x (t .climbs) (w .is) ne
+    pub busy-more : (y : ℕ) → (x ≡ r → ⊥) → Further τ r x y → r < y
+    busy-more y ne g = omega (arith, climb-more (request τ) horizon r x (t .climbs) (w .is) ne, g .more)
 
     pub busy-found : x ≡ r → Settled τ (record { length = r; sums = n + 1 })
     unfolding busyLength
@@ -47,10 +61,10 @@ module _ (τ : TaskSet) (fit : Fit τ) where
       sums = omega (arith, t .climbs .high);
     }
 
-    pub busy-passed : horizon < x → Settled τ (record { length = 1000001; sums = n + 1 })
+    pub busy-passed : (y : ℕ) → Further τ r x y → horizon < y → Settled τ (record { length = 1000001; sums = n + 1 })
     unfolding busyLength
-    busy-passed h = record {
-      is = climb-passed (request τ) horizon r x (request-mono τ (fit-lawful τ fit)) (t .climbs) (w .is) h;
+    busy-passed y g h = record {
+      is = climb-past (request τ) horizon r y (t .climbs) (far y g) h;
       sums = omega (arith, t .climbs .high);
     }
 

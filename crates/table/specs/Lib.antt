@@ -3,6 +3,7 @@ pub mod Bound
 pub mod Request
 pub mod Demand
 pub mod Budgets
+pub mod Leap
 pub mod Busy
 pub mod Overload
 pub mod Verdict

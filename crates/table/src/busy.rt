@@ -3,9 +3,10 @@ ghost use mathlib.Core.Path.{_≡_};
 ghost use Prim.Native.Nat.{_<_, _≤_};
 ghost use Rattle.table.specs.Rows.{tasksOf, Fit};
 ghost use Rattle.table.specs.Busy.{Settled};
+use super::leap::further;
 use super::request::requested;
 
-// The length, 1,000,001 where there is none up to 1,000,000, and how many sums over the rows it took to find.
+// The length, 1,000,001 where there is none up to 1,000,000, and how many times the request was summed up to find it.
 pub struct Busy {
     pub length: u64,
     pub sums: u64,
@@ -24,10 +25,11 @@ pub fn busy_length(words: &[u32]) -> Busy
         if next == r {
             break r;
         }
-        if 1000000 < next {
+        let far = further(words, r, next, sums);
+        if 1000000 < far {
             break 1000001;
         }
-        r = next;
+        r = far;
     };
     Busy { length, sums }
 }
