@@ -5,6 +5,7 @@ pub mod Demand
 pub mod Budgets
 pub mod Leap
 pub mod Busy
+pub mod Drop
 pub mod Overload
 pub mod Verdict
 pub mod Assess

@@ -19,7 +19,7 @@ fn jobs_by(deadline: u64, period: u64, t: u64) -> u64
     (t - deadline) / period + 1
 }
 
-fn row_demand(words: &[u32], i: usize, t: u64) -> u64
+pub fn row_demand(words: &[u32], i: usize, t: u64) -> u64
     requires { ⌜ Fit (tasksOf (now words)) × (i < tasksOf (now words) .rows) × (t ≤ 1000000) ⌝ }
     ensures { λ r. ⌜ Within 1000000000000 (rowDemand (tasksOf (now (words .entry))) t i) r ⌝ }
 {

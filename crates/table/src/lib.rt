@@ -8,6 +8,7 @@ ghost use Rattle.table.specs.Assess.{Shows, Judged, Assessed, refusedOf}
 pub mod budgets;
 pub mod busy;
 pub mod demand;
+pub mod drop;
 pub mod leap;
 pub mod overload;
 pub mod request;

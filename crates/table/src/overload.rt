@@ -1,24 +1,16 @@
 // A tick whose demand exceeds it (docs/SPECIFICATION.md §3.1), found by jumps and not by a scan: the QPA test.
-ghost use mathlib.Core.Path.{_≡_};
-ghost use Prim.Native.Nat.{_-_, _<_, _≤_, min};
+ghost use Prim.Native.Nat.{_≤_};
 ghost use Rattle.table.specs.Rows.{tasksOf, Fit};
 ghost use Rattle.table.specs.Overload.{Searched};
 use super::demand::demand_at;
+use super::drop::lower;
 
-// A tick and the demand there, which exceeds it; 0 and 0 where no tick of the range has one. And how many sums over the
-// rows it took to find.
+// A tick and the demand there, which exceeds it; 0 and 0 where no tick of the range has one. And how many times the
+// demand was summed up to find it.
 pub struct Found {
     pub at: u64,
     pub demand: u64,
     pub sums: u64,
-}
-
-// The next tick below t to look at: no tick from the demand of t up to t is exceeded.
-fn below(t: u64, h: u64) -> u64
-    requires { ⌜ 1 ≤ t ⌝ }
-    ensures { λ r. ⌜ r ≡ min h (t - 1) ⌝ }
-{
-    if h < t { h } else { t - 1 }
 }
 
 // Looks at the ticks from 1 to end.
@@ -38,7 +30,7 @@ pub fn search(words: &[u32], end: u64) -> Found
                 sums,
             };
         }
-        t = below(t, h);
+        t = lower(words, t, h, sums);
     }
     Found {
         at: 0,

@@ -1,6 +1,6 @@
-// Answers on document 01's unmarked tables and on others, one a line: number, two values; V of each row of an admitted
-// table; and, for rows that keep their rule, how many sums over the rows the busy length and the search for an overload
-// take, where a scan of the ticks takes as many as the compared range has.
+// Answers on the unmarked tables of docs/SPECIFICATION.md §7 and on others, one a line: number, two values; V of each row
+// of an admitted table; and, for rows that keep their rule, how many sums over the rows the busy length and the search for
+// an overload take, where a scan of the ticks takes as many as the compared range has, which is printed last.
 ghost use Rattle.table.specs.Rows.{tasksOf, Fit};
 use libc::STDOUT_FILENO;
 
@@ -58,7 +58,7 @@ fn answer(words: &[u32]) {
     io::write_all(STDOUT_FILENO, b"\n");
 }
 
-// Document 01's list.
+// The list of §7.
 fn listed() {
     answer(&[1, 2, 2, 500000, 1000000, 1000000]);
     answer(&[1, 2, 2, 500000, 999999, 999999]);
@@ -152,6 +152,28 @@ fn hard() {
             1,
             1000000,
             1000000,
+        ],
+    );
+    answer(
+        &[
+            1,
+            2,
+            2,
+            1,
+            3,
+            3,
+            1,
+            8,
+            8,
+            1,
+            25,
+            25,
+            1,
+            601,
+            601,
+            1,
+            361201,
+            361201,
         ],
     );
     answer(&[999, 1000, 1000, 500, 1000000, 500000, 300, 1000000, 1000000]);
