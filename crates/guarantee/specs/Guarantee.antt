@@ -1,14 +1,12 @@
--- The guarantee (docs/SPECIFICATION.md §6.2): the theorems of Statement.antt, but for the two that Keeps.antt has.
--- Assumes nothing.
+-- The guarantee (docs/SPECIFICATION.md §6.2): each theorem of Statement.antt but two, which Keeps.antt has. Assumes nothing.
 use Prim.Native.Nat.{ℕ}
-use mathlib.Core.Path.{_≡_}
 use mathlib.Core.List.{List, [], _∷_}
 use Rattle.table.specs.Rows.{tasksOf}
 use Rattle.table.specs.Theorems as tables
 use Rattle.session.specs.declared.Session.{Session}
 use Rattle.session.specs.Admit.{sessionOf}
 use Rattle.guarantee.specs.Ledger.{Call, Ledger, empty, ledgerFrom}
-use Rattle.guarantee.specs.Statement.{outcomeOf, sessionAfter, eventsOf, NoJobLate, OverloadDeserved}
+use Rattle.guarantee.specs.Statement.{outcomeOf, sessionAfter, eventsOf, NoJobLate, OverloadDeserved, Deterministic, DeterministicAfter}
 use Rattle.guarantee.specs.Good.{Good}
 use Rattle.guarantee.specs.KeepsFresh.{good-fresh}
 use Rattle.guarantee.specs.Keeps.{good-call, good-reached}
@@ -30,6 +28,8 @@ no-job-late l t e calls =
 pub overload-deserved : OverloadDeserved
 overload-deserved = tables.overload-deserved
 
--- the same call on the same session gives the same answer and leaves the same session
-pub deterministic : (s s′ : Session) (c c′ : Call) → s ≡ s′ → c ≡ c′ → outcomeOf s c ≡ outcomeOf s′ c′
+pub deterministic : Deterministic
 deterministic s s′ c c′ e f = cc
+
+pub deterministic-after : DeterministicAfter
+deterministic-after s s′ calls calls′ e f = (cc, cc)

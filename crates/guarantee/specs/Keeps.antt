@@ -1,21 +1,18 @@
--- Every session that a list of calls leads to is good, so it is sound and no call on it answers 5
--- (docs/SPECIFICATION.md §6.2). Assumes nothing.
-use Prim.Native.Nat.{ℕ, _+_}
+-- Every session that a list of calls leads to is sound, so no call answers 5 (docs/SPECIFICATION.md §6.2). Assumes nothing.
+use Prim.Native.Nat.{ℕ}
 use mathlib.Core.Path.{_≡_, subst}
-use mathlib.Core.Bool.{true, _||_}
 use mathlib.Core.List.{List, [], _∷_}
 use native.Mathlib.Omega.{arith}
-use lib.Dec.{leb, ltb, eqb}
-use Rattle.bounded.specs.Tests.{both}
 use Rattle.table.specs.Verdict.{answerOf}
 use Rattle.session.specs.declared.Session.{Session}
-use Rattle.session.specs.Reading.{idle, clockEnd, jobAt, rowsOf}
-use Rattle.session.specs.Sound.{sound}
-use Rattle.session.specs.Calls.{shown, arriveIn, chooseIn, advanceIn, finishIn, arriveOf, chooseOf, advanceOf, finishOf}
+use Rattle.session.specs.declared.Answer.{Answer}
+use Rattle.session.specs.Reading.{rowsOf}
+use Rattle.session.specs.Calls.{shown}
 use Rattle.session.specs.Admit.{sessionOf}
-use Rattle.guarantee.specs.Ledger.{Call, arrive, choose, advance, finish}
+use Rattle.guarantee.specs.Ledger.{Call}
 use Rattle.guarantee.specs.Statement.{outcomeOf, sessionAfter, AlwaysSound, NeverFive}
 use Rattle.guarantee.specs.Good.{Good}
+use Rattle.guarantee.specs.Effects.{Effect, refusal, arrived, chosen, advanced, finished, effect-of}
 use Rattle.guarantee.specs.KeepsArrive.{good-arrive}
 use Rattle.guarantee.specs.KeepsChoose.{good-choose}
 use Rattle.guarantee.specs.KeepsAdvance.{good-advance}
@@ -23,17 +20,17 @@ use Rattle.guarantee.specs.KeepsFinish.{good-finish}
 use Rattle.guarantee.specs.KeepsFresh.{good-fresh}
 
 -- each call, where the table is the rows that the session holds
-rows-call : (s : Session) → Good (rowsOf s) s → (c : Call) → Good (rowsOf s) (outcomeOf s c .session)
-unfolding arriveOf chooseOf advanceOf finishOf
-rows-call s g (arrive row) = simp (g .sound) (good-arrive s g row)
-rows-call s g (choose w) = simp (g .sound) (good-choose s g w)
-rows-call s g (advance n) = simp (g .sound) (good-advance s g n)
-rows-call s g finish = simp (g .sound) (good-finish s g)
+rows-effect : (s : Session) → Good (rowsOf s) s → {c : Call} {s′ : Session} {a : Answer} → Effect s c s′ a → Good (rowsOf s) s′
+rows-effect s g (refusal a h) = g
+rows-effect s g (arrived k row ready) = good-arrive s g k row ready
+rows-effect s g (chosen w) = good-choose s g w
+rows-effect s g (advanced n ch high end) = good-advance s g ch n high end
+rows-effect s g (finished ch r) = good-finish s g (s .chosen) (r .known) (r .waiting)
 
 -- and that is so of every good session
 pub good-call : (l : List ℕ) (s : Session) → Good l s → (c : Call) → Good l (outcomeOf s c .session)
 good-call l s g c =
-    subst (λ (z : List ℕ). Good z s → Good z (outcomeOf s c .session)) (g .rows) (λ h. rows-call s h c) g
+    subst (λ (z : List ℕ). Good z s → Good z (outcomeOf s c .session)) (g .rows) (λ h. rows-effect s h (effect-of s (g .sound) c)) g
 
 pub good-after : (l : List ℕ) (s : Session) → Good l s → (calls : List Call) → Good l (sessionAfter s calls)
 unfolding sessionAfter
@@ -47,23 +44,13 @@ good-reached l t e calls = good-after l (sessionOf l t) (good-fresh l t e) calls
 pub always-sound : AlwaysSound
 always-sound l t e calls = good-reached l t e calls .sound
 
--- a call on a sound session does not answer 5
-sound-not-five : (s : Session) → sound s ≡ true → (c : Call) → shown (outcomeOf s c .answer) .number ≡ 5 → ⊥
-unfolding arriveOf chooseOf advanceOf finishOf arriveIn chooseIn advanceIn finishIn
-sound-not-five s e (arrive row) =
-    simp e
-    (both (leb (s .count) row) (λ a. simp a (λ h. omega arith))
-    (λ a. both (ltb (s .clock) (jobAt s row .next)) (λ b. simp (a, b) (λ h. omega arith)) (λ b. simp (a, b) (λ h. omega arith))))
-sound-not-five s e (choose w) = simp e (both (ltb 0 (s .span)) (λ a. simp a (λ h. omega arith)) (λ a. simp a (λ h. omega arith)))
-sound-not-five s e (advance n) =
-    simp e
-    (both (eqb (s .span) 0) (λ a. simp a (λ h. omega arith))
-    (λ a. both (eqb n 0 || ltb (s .span) n) (λ b. simp (a, b) (λ h. omega arith))
-    (λ b. both (ltb clockEnd (s .clock + n)) (λ d. simp (a, b, d) (λ h. omega arith)) (λ d. simp (a, b, d) (λ h. omega arith)))))
-sound-not-five s e finish =
-    simp e
-    (both (eqb (s .span) 0) (λ a. simp a (λ h. omega arith))
-    (λ a. both (eqb (s .chosen) idle) (λ b. simp (a, b) (λ h. omega arith)) (λ b. simp (a, b) (λ h. omega arith))))
+-- a sound session's refusals begin at 6
+not-five : {s s′ : Session} {c : Call} {a : Answer} → Effect s c s′ a → shown a .number ≡ 5 → ⊥
+not-five (refusal a h) z = omega arith
+not-five (arrived k row ready) z = omega arith
+not-five (chosen w) z = omega arith
+not-five (advanced n ch high end) z = omega arith
+not-five (finished ch r) z = omega arith
 
 pub never-five : NeverFive
-never-five l t e calls c = sound-not-five (sessionAfter (sessionOf l t) calls) (always-sound l t e calls) c
+never-five l t e calls c = not-five (effect-of (sessionAfter (sessionOf l t) calls) (always-sound l t e calls) c)

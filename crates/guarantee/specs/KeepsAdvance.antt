@@ -1,84 +1,41 @@
 -- An advance keeps a session good (docs/SPECIFICATION.md §5.5). Assumes nothing.
 use Prim.Native.Nat.{ℕ, _+_, _-_, _≤_, _<_}
 use mathlib.Core.Path.{_≡_, refl, sym, ap, _∙_}
-use mathlib.Core.Bool.{true, false, true≢false}
+use mathlib.Core.Bool.{true, false, cond}
 use mathlib.Core.Logic.{dite, _⊎_, inl, inr, ⊎-elim}
 use native.Mathlib.Omega.{arith}
 use native.Mathlib.Decide.{decLt, ℕ-discrete}
 use lib.Dec.{ltb, eqb}
-use borrow.Author.Tests.{eqb-true, eqb-false, ltb-true, ltb-false, lt-ltb, eq-eqb, ne-eqb}
+use borrow.Author.Tests.{eqb-true, eqb-false, ltb-true, lt-ltb}
 use Rattle.bounded.specs.Tests.{both}
-use Rattle.bounded.specs.Fold.{put-length, put-at}
+use Rattle.bounded.specs.Fold.{put-length}
 use Rattle.edf.specs.State.{Same, Head}
 use Rattle.edf.specs.Steps.{Run, Idle}
 use Rattle.edf.specs.Safe.{Step, Earliest}
-use Rattle.session.specs.declared.Job.{Job}
 use Rattle.session.specs.declared.Session.{Session}
-use Rattle.session.specs.Reading.{idle, clockEnd, noJob, jobAt, rowsOf, tasks, waits, ahead, stateOf}
-use Rattle.session.specs.Calls.{changed, agedJob, agedJobs, advanceIn}
+use Rattle.session.specs.Reading.{idle, clockEnd, jobAt, rowsOf, tasks, waits, ahead, stateOf}
+use Rattle.session.specs.Calls.{changed, agedJob, agedJobs}
 use Rattle.session.specs.Facts.{Running, Choice}
-use Rattle.guarantee.specs.Good.{SafeAs, Good}
+use Rattle.guarantee.specs.Good.{SafeAs, Good, good-places}
 use Rattle.guarantee.specs.KeepsTable.{start-tight}
-use Rattle.guarantee.specs.KeepsSound.{in-force, ahead-waits, ahead-earlier, earlier-ahead, idle-ahead, later-not}
+use Rattle.guarantee.specs.KeepsSound.{ahead-waits, ahead-earlier, earlier-ahead, idle-ahead, later-not}
+use Rattle.guarantee.specs.KeepsAged.{Passed, Worked, aged-passed, aged-worked}
 use Rattle.guarantee.specs.KeepsStep.{as-step, Bounds, good-facts, good-bounds, good-changed}
-
--- ---- one row
-
--- a is row i's job after n ticks in which it did not run
-pub record Passed (s : Session) (n i : ℕ) (a : Job) : Type 0 where
-  pub next : a .next ≡ jobAt s i .next
-  pub due : a .due ≡ jobAt s i .due
-  pub left : a .left ≡ jobAt s i .left
-  pub loses : ahead s (s .chosen) i ≡ true → a .budget ≡ jobAt s i .budget - n
-  pub stays : ahead s (s .chosen) i ≡ false → a .budget ≡ jobAt s i .budget
-
--- a is row i's job after n ticks in which it ran
-pub record Worked (s : Session) (n i : ℕ) (a : Job) : Type 0 where
-  pub next : a .next ≡ jobAt s i .next
-  pub left : a .left ≡ jobAt s i .left - n
-  pub due : 0 < a .left → a .due ≡ jobAt s i .due
-  pub budget : 0 < a .left → a .budget ≡ jobAt s i .budget
-
-pub aged-passed : (s : Session) (n i : ℕ) → ¬ (i ≡ s .chosen) → Passed s n i (agedJob s n i)
-unfolding agedJob
-aged-passed s n i ne =
-    both (ahead s (s .chosen) i)
-    (λ e. simp (ne-eqb i (s .chosen) ne, e)
-    (record { next = refl; due = refl; left = refl; loses = λ h. refl; stays = λ h. absurd (true≢false (sym e ∙ h)) }))
-    (λ e. simp (ne-eqb i (s .chosen) ne, e)
-    (record { next = refl; due = refl; left = refl; loses = λ h. absurd (true≢false (sym h ∙ e)); stays = λ h. refl }))
-
-pub aged-worked : (s : Session) (n i : ℕ) → i ≡ s .chosen → Worked s n i (agedJob s n i)
-unfolding agedJob
-aged-worked s n i e =
-    both (eqb (jobAt s i .left) n)
-    (λ f. simp (eq-eqb i (s .chosen) e, f)
-    (record {
-      next = refl;
-      left = omega (arith, eqb-true (jobAt s i .left) n f);
-      due = λ h. absurd (omega arith);
-      budget = λ h. absurd (omega arith);
-    }))
-    (λ f. simp (eq-eqb i (s .chosen) e, f) (record { next = refl; left = refl; due = λ h. refl; budget = λ h. refl }))
 
 -- ---- n ticks of a choice in force
 
-module _ (s : Session) (g : Good (rowsOf s) s) (ch : Choice s) (n : ℕ) (some : 1 ≤ n) (within : n ≤ s .span) (c : ℕ) where
+module _ (s : Session) (g : Good (rowsOf s) s) (ch : Choice s) (n : ℕ) (within : n ≤ s .span) (c : ℕ) where
   abbrev after : Session
   after = changed s (s .clock + n) (agedJobs s n (s .count)) c (s .span - n)
 
   known : (i : ℕ) → i < tasks s .rows → i < s .count
   known i l = omega (arith, g .count)
 
-  is : (i : ℕ) → i < s .count → jobAt after i ≡ agedJob s n i
-  unfolding agedJobs
-  is i l = put-at (agedJob s n) (s .jobs) (s .count) noJob (omega (arith, g .places, good-facts s g .few)) i l
-
   passed : (i : ℕ) → i < s .count → ¬ (i ≡ s .chosen) → Passed s n i (jobAt after i)
-  passed i l ne = rw (is i l) (aged-passed s n i ne)
+  passed = aged-passed s n (good-places g)
 
   worked : (i : ℕ) → i < s .count → i ≡ s .chosen → Worked s n i (jobAt after i)
-  worked i l e = rw (is i l) (aged-worked s n i e)
+  worked = aged-worked s n (good-places g)
 
   same : (i : ℕ) → i < s .count → ¬ (i ≡ s .chosen) → Same (stateOf s) (stateOf after) i
   unfolding waits
@@ -93,6 +50,7 @@ module _ (s : Session) (g : Good (rowsOf s) s) (ch : Choice s) (n : ℕ) (some :
   tight-none k i l a =
       omega (
         arith,
+        ch .some,
         ch .affords i l a,
         good-bounds s g i l .budget (ahead-waits s (s .chosen) i a),
         start-tight (tasks s) (s .kind) k i,
@@ -185,15 +143,15 @@ module _ (s : Session) (g : Good (rowsOf s) s) (ch : Choice s) (n : ℕ) (some :
 
 -- ---- the choice, where its span is not used up
 
-module _ (s : Session) (g : Good (rowsOf s) s) (ch : Choice s) (n : ℕ) (some : 1 ≤ n) (more : n < s .span) where
+module _ (s : Session) (g : Good (rowsOf s) s) (ch : Choice s) (n : ℕ) (more : n < s .span) where
   abbrev later : Session
-  later = after s g ch n some (omega arith) (s .chosen)
+  later = after s g ch n (omega arith) (s .chosen)
 
   ran : (r : Running s) → Worked s n (s .chosen) (jobAt later (s .chosen))
-  ran r = worked s g ch n some (omega arith) (s .chosen) (s .chosen) (r .known) refl
+  ran r = worked s g ch n (omega arith) (s .chosen) (s .chosen) (r .known) refl
 
   rest : (i : ℕ) → i < s .count → ¬ (i ≡ s .chosen) → Same (stateOf s) (stateOf later) i
-  rest = same s g ch n some (omega arith) (s .chosen)
+  rest = same s g ch n (omega arith) (s .chosen)
 
   runs-still : (s .chosen ≡ idle) ⊎ Running s → (s .chosen ≡ idle) ⊎ Running later
   unfolding waits
@@ -227,25 +185,14 @@ module _ (s : Session) (g : Good (rowsOf s) s) (ch : Choice s) (n : ℕ) (some :
     runs = runs-still (ch .runs);
     affords = λ j l a.
         let b = ahead-still (ch .runs) j l a in
-        omega (arith, pays s g ch n some (omega arith) (s .chosen) j l (b .0) (b .1), ch .affords j l (b .1));
+        omega (arith, pays s g ch n (omega arith) (s .chosen) j l (b .0) (b .1), ch .affords j l (b .1));
   }
 
-pub good-advance : (s : Session) → Good (rowsOf s) s → (n : ℕ) → Good (rowsOf s) (advanceIn s n .session)
-unfolding advanceIn
-good-advance s g n =
-    both (eqb (s .span) 0) (λ a. simp a g)
-    (λ a. both (eqb n 0) (λ b. simp (a, b) g)
-    (λ b. both (ltb (s .span) n) (λ d. simp (a, b, d) g)
-    (λ d. both (ltb clockEnd (s .clock + n)) (λ e. simp (a, b, d, e) g)
-    (λ e.
-    let ch = in-force s (g .sound) a in
-    let low : 1 ≤ n = omega (arith, eqb-false n 0 b) in
-    let high = ltb-false (s .span) n d in
-    let end = ltb-false clockEnd (s .clock + n) e in
+pub good-advance : (s : Session) → Good (rowsOf s) s → Choice s → (n : ℕ) → n ≤ s .span → s .clock + n ≤ clockEnd
+    → Good (rowsOf s) (changed s (s .clock + n) (agedJobs s n (s .count)) (cond (eqb (s .span) n) 0 (s .chosen)) (s .span - n))
+good-advance s g ch n high end =
     both (eqb (s .span) n)
-    (λ f.
-    let u = eqb-true (s .span) n f in
-    simp (a, b, d, e, f) (advance-good s g ch n low high 0 end (inl (omega arith))))
-    (λ f.
-    let u = eqb-false (s .span) n f in
-    simp (a, b, d, e, f) (advance-good s g ch n low high (s .chosen) end (inr (choice-still s g ch n low (omega arith)))))))))
+    (λ e. let u = eqb-true (s .span) n e in simp e (advance-good s g ch n high 0 end (inl (omega arith))))
+    (λ e.
+    let u = eqb-false (s .span) n e in
+    simp e (advance-good s g ch n high (s .chosen) end (inr (choice-still s g ch n (omega arith)))))

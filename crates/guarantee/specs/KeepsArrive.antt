@@ -3,16 +3,15 @@ use Prim.Native.Nat.{ℕ, _+_, _≤_, _<_}
 use mathlib.Core.Path.{_≡_, refl, ap, _∙_}
 use mathlib.Core.Logic.{⊎-elim}
 use native.Mathlib.Omega.{arith}
-use lib.Dec.{leb, ltb}
-use borrow.Author.Tests.{leb-false, ltb-false, lt-ltb}
-use Rattle.bounded.specs.Tests.{both}
+use lib.Dec.{ltb}
+use borrow.Author.Tests.{lt-ltb}
 use Rattle.edf.specs.Demand.{interference}
 use Rattle.edf.specs.Steps.{Arrive}
 use Rattle.edf.specs.Safe.{Step, Earliest}
 use Rattle.session.specs.declared.Job.{Job}
 use Rattle.session.specs.declared.Session.{Session}
 use Rattle.session.specs.Reading.{jobAt, rowsOf, tasks, waits, startBudget, stateOf}
-use Rattle.session.specs.Calls.{arrivedJob, arriveIn}
+use Rattle.session.specs.Calls.{arrivedJob}
 use Rattle.guarantee.specs.Good.{Good}
 use Rattle.guarantee.specs.KeepsTable.{start-loose, start-tight}
 use Rattle.guarantee.specs.KeepsStep.{as-step, good-kind, withJob, set-at, set-other, set-others, good-set}
@@ -46,16 +45,9 @@ module _ (s : Session) (g : Good (rowsOf s) s) (k : ℕ) (row : k < s .count) (r
   within : s .kind ≡ 1 → startBudget (s .kind) (tasks s) k + tasks s .C k + interference (tasks s) k (tasks s .D k) ≤ tasks s .D k
   within e = ⊎-elim (λ c. start-loose (tasks s) (s .kind) e (c .1) k known) (λ c. absurd (omega arith)) (good-kind s g)
 
-  arrive-good : Good (rowsOf s) after
-  arrive-good =
+  pub good-arrive : Good (rowsOf s) after
+  good-arrive =
       good-set s g k row (arrivedJob s k) (omega arith) (omega arith)
       (as-step (tasks s) (g .fit) (g .feasible) (stateOf s) (stateOf after) (g .safe)
       (λ e. Step.arrived k (startBudget (s .kind) (tasks s) k) (arrive-step _ refl) (within e))
       (λ e. Earliest.arrived k (arrive-step 0 (start-tight (tasks s) (s .kind) e k))))
-
-pub good-arrive : (s : Session) → Good (rowsOf s) s → (k : ℕ) → Good (rowsOf s) (arriveIn s k .session)
-unfolding arriveIn
-good-arrive s g k =
-    both (leb (s .count) k) (λ a. simp a g)
-    (λ a. both (ltb (s .clock) (jobAt s k .next)) (λ b. simp (a, b) g)
-    (λ b. simp (a, b) (arrive-good s g k (leb-false (s .count) k a) (ltb-false _ _ b))))

@@ -7,7 +7,7 @@ use mathlib.Core.Logic.{dite, _⊎_, inl, inr}
 use native.Mathlib.Nat.{mod-lt}
 use native.Mathlib.Omega.{arith}
 use native.Mathlib.Decide.{ℕ-discrete}
-use lib.Dec.{ltb, eqb}
+use lib.Dec.{eqb}
 use lib.ListN.{getD}
 use borrow.Author.Tests.{eq-eqb, ne-eqb}
 use Rattle.bounded.specs.Tests.{both}
@@ -16,7 +16,7 @@ use Rattle.table.specs.Rows.{horizon}
 use Rattle.session.specs.declared.Session.{Session}
 use Rattle.session.specs.Reading.{idle, jobAt, rowsOf, tasks, waits, ahead}
 use Rattle.session.specs.Choose.{draw, pickOf, pickUsed, room, lengthDrawn, spanOf}
-use Rattle.session.specs.Calls.{changed, chooseIn}
+use Rattle.session.specs.Calls.{changed}
 use Rattle.session.specs.Facts.{Running}
 use Rattle.guarantee.specs.Good.{Good}
 use Rattle.guarantee.specs.KeepsStep.{good-facts, good-bounds, good-changed}
@@ -115,11 +115,7 @@ choose-good s g c n may =
     (λ i l. let b = good-bounds s g i l in record { next = b .next; budget = b .budget })
     (inr may)
 
-pub good-choose : (s : Session) → Good (rowsOf s) s → (w : List ℕ) → Good (rowsOf s) (chooseIn s w .session)
-unfolding chooseIn
+pub good-choose : (s : Session) → Good (rowsOf s) s → (w : List ℕ)
+    → Good (rowsOf s) (changed s (s .clock) (s .jobs) (pickOf s w) (spanOf s w (pickUsed s w) (pickOf s w)))
 good-choose s g w =
-    both (ltb 0 (s .span)) (λ a. simp a g)
-    (λ a.
-    simp a
-    (choose-good s g (pickOf s w) (spanOf s w (pickUsed s w) (pickOf s w))
-    (span-may s g (pickOf s w) (pick-may s (good-facts s g .few) w) w (pickUsed s w))))
+    choose-good s g (pickOf s w) _ (span-may s g (pickOf s w) (pick-may s (good-facts s g .few) w) w (pickUsed s w))

@@ -3,16 +3,14 @@ use Prim.Native.Nat.{ℕ, _<_}
 use mathlib.Core.Path.{_≡_, refl, ap}
 use mathlib.Core.Bool.{true}
 use native.Mathlib.Omega.{arith}
-use lib.Dec.{ltb, eqb}
-use Rattle.bounded.specs.Tests.{both}
+use lib.Dec.{ltb}
 use Rattle.edf.specs.Steps.{Finish}
 use Rattle.edf.specs.Safe.{Step, Earliest}
 use Rattle.session.specs.declared.Job.{Job}
 use Rattle.session.specs.declared.Session.{Session}
-use Rattle.session.specs.Reading.{idle, jobAt, rowsOf, tasks, waits, stateOf}
-use Rattle.session.specs.Calls.{overJob, finishIn}
+use Rattle.session.specs.Reading.{jobAt, rowsOf, tasks, waits, stateOf}
+use Rattle.session.specs.Calls.{overJob}
 use Rattle.guarantee.specs.Good.{Good}
-use Rattle.guarantee.specs.KeepsSound.{in-force, running}
 use Rattle.guarantee.specs.KeepsStep.{as-step, good-bounds, withJob, set-at, set-other, set-others, good-set}
 
 module _ (s : Session) (g : Good (rowsOf s) s) (k : ℕ) (row : k < s .count) (waiting : waits s k ≡ true) where
@@ -36,15 +34,8 @@ module _ (s : Session) (g : Good (rowsOf s) s) (k : ℕ) (row : k < s .count) (w
     budgets = λ i l ne w. ap (λ (j : Job). j .budget) (set-other s g k row (overJob s k) i ne);
   }
 
-  finish-good : Good (rowsOf s) after
-  finish-good =
+  pub good-finish : Good (rowsOf s) after
+  good-finish =
       good-set s g k row (overJob s k) (good-bounds s g k row .next) (omega arith)
       (as-step (tasks s) (g .fit) (g .feasible) (stateOf s) (stateOf after) (g .safe)
       (λ e. Step.finished k finish-step) (λ e. Earliest.finished k finish-step))
-
-pub good-finish : (s : Session) → Good (rowsOf s) s → Good (rowsOf s) (finishIn s .session)
-unfolding finishIn
-good-finish s g =
-    both (eqb (s .span) 0) (λ a. simp a g)
-    (λ a. both (eqb (s .chosen) idle) (λ b. simp (a, b) g)
-    (λ b. let r = running s (in-force s (g .sound) a) b in simp (a, b) (finish-good s g (s .chosen) (r .known) (r .waiting))))

@@ -1,12 +1,12 @@
 -- The fresh session of an admitted table is good (docs/SPECIFICATION.md §5.1). Assumes nothing.
-use Prim.Native.Nat.{ℕ, _*_, _/_, _≤_, _<_, min}
+use Prim.Native.Nat.{ℕ, zero, suc, _*_, _/_, min}
 use mathlib.Core.Path.{_≡_, refl, sym, ap, _∙_}
-use mathlib.Core.Bool.{true, false, true≢false}
+use mathlib.Core.Bool.{false, true≢false}
 use mathlib.Core.List.{List}
 use mathlib.Core.Logic.{inl}
 use native.Mathlib.Omega.{arith}
 use lib.Dec.{ltb}
-use lib.ListN.{length, getD, take, replicate, length-take, length-replicate, getD-replicate}
+use lib.ListN.{length, getD, take, replicate, length-take, length-replicate}
 use lib.Seq.{getD-take, ext-getD}
 use borrow.Author.Tests.{eq-eqb}
 use Rattle.bounded.specs.Fold.{put-length, put-at}
@@ -53,6 +53,17 @@ fresh-rows l kind e =
           put-length (λ i. getD l i 0) (replicate 48 0) (length l),
         )
 
+-- ---- the jobs: there are none
+
+no-job : (n i : ℕ) → getD (replicate n noJob) i noJob ≡ noJob
+no-job zero i = refl
+no-job (suc n) zero = refl
+no-job (suc n) (suc i) = no-job n i
+
+pub fresh-job : (l : List ℕ) (kind i : ℕ) → jobAt (freshOf l kind) i ≡ noJob
+unfolding freshOf
+fresh-job l kind i = no-job 16 i
+
 -- ---- the session
 
 module _ (l : List ℕ) (t : ℕ) (e : answerOf l t .number ≡ 0) where
@@ -69,16 +80,12 @@ module _ (l : List ℕ) (t : ℕ) (e : answerOf l t .number ≡ 0) where
   answer : answerOf (rowsOf fresh) 0 ≡ answerOf l t
   answer = rw rows (sym (answer-admitted l t 0 e .0))
 
-  fresh-job : (i : ℕ) → i < tasksOf l .rows → jobAt fresh i ≡ noJob
-  unfolding freshOf
-  fresh-job i u = getD-replicate 16 i noJob noJob (omega (arith, fit .few))
-
   fresh-start : Start (tasksOf l) (stateOf fresh)
   unfolding freshOf waits
   fresh-start = record {
     clock = refl;
-    next = λ i u. ap (λ (j : Job). j .next) (fresh-job i u);
-    waits = λ i u. ap (λ (j : Job). ltb 0 (j .left)) (fresh-job i u);
+    next = λ i u. ap (λ (j : Job). j .next) (fresh-job l (answerOf l t .first) i);
+    waits = λ i u. ap (λ (j : Job). ltb 0 (j .left)) (fresh-job l (answerOf l t .first) i);
   }
 
   fresh-facts : Facts fresh

@@ -1,28 +1,24 @@
--- The head of a session, and that what is chosen may run for a tick at least (docs/SPECIFICATION.md §5.4).
--- Assumes nothing.
-use Prim.Native.Nat.{ℕ, zero, suc, _≤_, _<_}
+-- What is chosen may run for a tick at least (docs/SPECIFICATION.md §5.4). Assumes nothing.
+use Prim.Native.Nat.{ℕ, _≤_, _<_}
 use mathlib.Core.Path.{_≡_, refl, sym, _∙_}
-use mathlib.Core.Bool.{true, false, not, _&&_, _||_, true≢false}
+use mathlib.Core.Bool.{true, not, _&&_, _||_, true≢false}
 use mathlib.Core.List.{List}
-use mathlib.Core.Logic.{dite, _⊎_, inl, inr, ⊎-elim}
+use mathlib.Core.Logic.{inl, inr}
 use native.Mathlib.Omega.{arith}
-use native.Mathlib.Decide.{decLt, ℕ-discrete}
 use lib.Dec.{ltb, eqb}
 use lib.ListN.{getD}
-use borrow.Author.Tests.{eqb-true, ltb-true, ltb-false, lt-ltb, le-ltb, ne-eqb}
-use Rattle.bounded.specs.Tests.{both, and-true, and-both, so-then}
-use Rattle.bounded.specs.All.{all-at, all-of}
-use Rattle.bounded.specs.Least.{least-at, least-before}
+use borrow.Author.Tests.{eqb-true, ltb-true, ltb-false}
+use Rattle.bounded.specs.Tests.{both, and-true, so-then}
+use Rattle.bounded.specs.All.{all-at}
+use Rattle.bounded.specs.Least.{least-at}
 use Rattle.session.specs.declared.Session.{Session}
 use Rattle.session.specs.Reading.{idle, jobAt, waits, ahead}
-use Rattle.session.specs.Order.{before, isHead, headOf, permits, candidate, candidates, position, rowWith, candidateAt}
-use Rattle.session.specs.First.{none-waits, head-waits, head-least, is-head}
+use Rattle.session.specs.Order.{headOf, permits, candidate, candidates, position, rowWith, candidateAt}
+use Rattle.session.specs.First.{none-waits, head-waits, head-least}
 use Rattle.session.specs.Choose.{draw, drawn, pickOf}
 use Rattle.session.specs.Calls.{changed}
 use Rattle.session.specs.Facts.{Choice}
 use Rattle.guarantee.specs.KeepsSound.{ahead-waits, ahead-earlier}
-
--- ---- what is chosen
 
 -- c may be chosen for n ticks
 abbrev pub May : Session → ℕ → ℕ → Type 0

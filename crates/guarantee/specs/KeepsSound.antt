@@ -1,5 +1,4 @@
--- A session is sound where the facts of soundness hold (docs/SPECIFICATION.md §5.2), and what a choice in force says of
--- the other jobs. Assumes nothing.
+-- From the facts of soundness to its tests (docs/SPECIFICATION.md §5.2), and the jobs that lose budget. Assumes nothing.
 use Prim.Native.Nat.{ℕ, _≤_, _<_}
 use mathlib.Core.Path.{_≡_, refl}
 use mathlib.Core.Bool.{true, false, _&&_}

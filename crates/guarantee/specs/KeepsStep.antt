@@ -1,5 +1,5 @@
--- What a good session gives, and how a changed one is shown to be good. Here a session is good for the rows that it
--- holds. Assumes nothing.
+-- What a good session gives, and how a changed one is shown to be good. Assumes nothing.
+-- Here a session is good for the rows that it holds.
 use Prim.Native.Nat.{ℕ, _+_, _≤_, _<_}
 use mathlib.Core.Path.{_≡_, refl, sym, ap, _∙_}
 use mathlib.Core.Bool.{true}
@@ -11,7 +11,7 @@ use lib.Dec.{ltb}
 use lib.ListN.{length, set, length-set}
 use lib.Seq.{getD-set-same, getD-set-other}
 use Rattle.edf.specs.Demand.{TaskSet, Feasible}
-use Rattle.edf.specs.State.{State, WellFormed, Same, Others}
+use Rattle.edf.specs.State.{State, Same, Others}
 use Rattle.edf.specs.Steps.{Start}
 use Rattle.edf.specs.Safe.{Step, safe-start, safe-step, Earliest, earliest-start, earliest-step}
 use Rattle.table.specs.Rows.{Fit, fit-lawful}
@@ -20,15 +20,11 @@ use Rattle.session.specs.declared.Session.{Session}
 use Rattle.session.specs.Reading.{clockEnd, noJob, jobAt, rowsOf, tasks, waits, startBudget, stateOf}
 use Rattle.session.specs.Calls.{changed}
 use Rattle.session.specs.Facts.{Choice, Facts, facts-of}
-use Rattle.guarantee.specs.Good.{SafeAs, asLoose, asTight, Good}
+use Rattle.guarantee.specs.Good.{SafeAs, asLoose, asTight, as-formed, Good, good-places, in-table}
 use Rattle.guarantee.specs.KeepsTable.{Kind, answer-kind}
 use Rattle.guarantee.specs.KeepsSound.{sound-of}
 
 -- ---- the invariant of the theory
-
-pub as-formed : {τ : TaskSet} {s : State} {k : ℕ} → SafeAs τ s k → WellFormed τ s
-as-formed (asLoose v) = v .formed
-as-formed (asTight v) = v .formed
 
 -- a fresh state has it,
 pub as-start : (τ : TaskSet) → Fit τ → Feasible τ → (s : State) (k : ℕ) → Kind τ k → Start τ s → SafeAs τ s k
@@ -92,7 +88,7 @@ module _ (s : Session) (g : Good (rowsOf s) s) where
           clock = end;
           next = λ i l. bounds i l .next;
           job = λ i l w.
-              let f = as-formed safe i (omega (arith, g .count)) w in
+              let f = as-formed safe i (in-table g i l) w in
               record { some = f .some; most = f .most; deadline = f .deadline; late = f .ahead; budget = bounds i l .budget w };
           choice = choice;
         });
@@ -105,7 +101,7 @@ module _ (s : Session) (g : Good (rowsOf s) s) where
     withJob = changed s (s .clock) (set (s .jobs) k job) 0 0
 
     pub set-at : jobAt withJob k ≡ job
-    set-at = getD-set-same (s .jobs) k job noJob (omega (arith, g .places, good-facts .few))
+    set-at = getD-set-same (s .jobs) k job noJob (omega (arith, good-places g))
 
     pub set-other : (i : ℕ) → ¬ (i ≡ k) → jobAt withJob i ≡ jobAt s i
     set-other i ne = getD-set-other (s .jobs) k i job noJob ne

@@ -1,5 +1,4 @@
--- The kind of an admitted table, and the budgets that its jobs arrive with (docs/SPECIFICATION.md §3.1, §5.3).
--- Assumes nothing.
+-- An admitted table's kind, and the budgets that its jobs arrive with (docs/SPECIFICATION.md §3.1, §5.3). Assumes nothing.
 use Prim.Native.Nat.{ℕ, suc, _+_, _≤_, _<_}
 use mathlib.Core.Path.{_≡_, refl, sym, ap, _∙_}
 use mathlib.Core.Bool.{true, false, not}
@@ -47,19 +46,23 @@ answer-kind l t z =
 natural-sub : (a b : ℕ) → b ≤ a → natural (subℕ a b) + b ≡ a
 natural-sub a b h = simp (le-ltb a b h) (omega arith)
 
--- in a loose session it is V, which is what the other rows leave of D - C
-pub start-loose : (τ : TaskSet) (kind : ℕ) → kind ≡ 1 → loose τ ≡ true → (i : ℕ) → i < τ .rows
-    → startBudget kind τ i + τ .C i + interference τ i (τ .D i) ≤ τ .D i
-unfolding loose looseTo budgetOf startBudget startBy
-start-loose τ kind k e i l =
-    rw k
-    (let h =
+-- in a loose table D has room for C and what the other rows may ask for
+loose-row : (τ : TaskSet) → loose τ ≡ true → (i : ℕ) → i < τ .rows → τ .C i + interference τ i (τ .D i) ≤ τ .D i
+unfolding loose looseTo budgetOf
+loose-row τ e i l =
     ltb-false (τ .D i) _
     (sym (difference-negative (τ .D i) (τ .C i) (interference τ i (τ .D i)))
-    ∙ not-true (negative (budgetOf τ i)) (all-at (λ i. not (negative (budgetOf τ i))) (τ .rows) e i l)) in
-    omega (
+    ∙ not-true (negative (budgetOf τ i)) (all-at (λ i. not (negative (budgetOf τ i))) (τ .rows) e i l))
+
+-- in a loose session the starting budget is V, which is what is left of D
+pub start-loose : (τ : TaskSet) (kind : ℕ) → kind ≡ 1 → loose τ ≡ true → (i : ℕ) → i < τ .rows
+    → startBudget kind τ i + τ .C i + interference τ i (τ .D i) ≤ τ .D i
+unfolding budgetOf startBudget startBy
+start-loose τ kind k e i l =
+    rw k
+    (omega (
       arith,
-      natural-sub (τ .D i) (τ .C i + interference τ i (τ .D i)) h,
+      natural-sub (τ .D i) (τ .C i + interference τ i (τ .D i)) (loose-row τ e i l),
       ap natural (difference-sub (τ .D i) (τ .C i) (interference τ i (τ .D i))),
     ))
 

@@ -1,12 +1,11 @@
--- The ledger: jobs, ends and clock, kept from the table, the calls and their answers alone (docs/SPECIFICATION.md §6.1).
--- It looks into no session. Definitions only. Assumes nothing.
-use Prim.Native.Nat.{ℕ, _+_, _≤_, _<_}
-use mathlib.Core.Bool.{Bool, true, false, cond}
+-- The ledger, kept from the table, the calls and their answers alone (docs/SPECIFICATION.md §6.1). Assumes nothing.
+-- It holds jobs, ends and a clock, and looks into no session. Definitions only.
+use Prim.Native.Nat.{ℕ, _+_}
+use mathlib.Core.Bool.{cond}
 use mathlib.Core.List.{List, [], _∷_}
 use lib.Dec.{leb, eqb}
 use Rattle.edf.specs.Demand.{TaskSet}
 use Rattle.session.specs.declared.Answer.{Answer}
-use Rattle.session.specs.declared.Answer.the-variants.{Arrived, Chosen, Advanced, Finished, Unsound, NoRow, TooEarly, InForce, NoChoice, BadStep, Idling, ClockEnd}
 use Rattle.session.specs.Reading.{idle}
 use Rattle.session.specs.Calls.{shown}
 

@@ -3,9 +3,11 @@ pub mod Statement
 pub mod Good
 pub mod KeepsTable
 pub mod KeepsSound
+pub mod Effects
 pub mod KeepsStep
 pub mod KeepsArrive
 pub mod KeepsFinish
+pub mod KeepsAged
 pub mod KeepsAdvance
 pub mod KeepsOrder
 pub mod KeepsChoose

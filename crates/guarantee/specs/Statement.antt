@@ -64,3 +64,14 @@ NeverFive =
 -- each table refused as overloaded has allowed arrivals of which every order of work leaves some job not served in time
 abbrev pub OverloadDeserved : Type 0
 OverloadDeserved = (l : List ℕ) (t : ℕ) → answerOf l t .number ≡ 3 → Unservable (tasksOf l)
+
+-- EQUAL CALLS GIVE EQUAL SCHEDULES: equal calls, with equal words, on equal sessions have equal outcomes. This holds of
+-- every function; that the code computes this one is the contract of each call.
+abbrev pub Deterministic : Type 0
+Deterministic = (s s′ : Session) (c c′ : Call) → s ≡ s′ → c ≡ c′ → outcomeOf s c ≡ outcomeOf s′ c′
+
+-- equal lists of calls from equal sessions have equal events, and lead to equal sessions
+abbrev pub DeterministicAfter : Type 0
+DeterministicAfter =
+    (s s′ : Session) (calls calls′ : List Call) → s ≡ s′ → calls ≡ calls′
+    → (eventsOf s calls ≡ eventsOf s′ calls′) × (sessionAfter s calls ≡ sessionAfter s′ calls′)

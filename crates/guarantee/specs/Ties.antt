@@ -1,31 +1,32 @@
--- The ledger, which is kept from the calls and their answers alone, follows the session (docs/SPECIFICATION.md §6.1).
--- Assumes nothing.
-use Prim.Native.Nat.{ℕ, zero, suc, _+_, _-_, _≤_, _<_}
+-- The ledger follows the session from call to call (docs/SPECIFICATION.md §6.1). Assumes nothing.
+use Prim.Native.Nat.{ℕ, _+_, _-_, _≤_, _<_}
 use mathlib.Core.Path.{_≡_, refl, sym, ap, _∙_}
 use mathlib.Core.Bool.{cond}
 use mathlib.Core.List.{List}
 use mathlib.Core.Logic.{dite, _⊎_, inl, inr}
 use native.Mathlib.Omega.{arith}
 use native.Mathlib.Decide.{ℕ-discrete}
-use lib.Dec.{leb, ltb, eqb}
-use lib.ListN.{getD, set, replicate}
+use lib.Dec.{eqb}
+use lib.ListN.{getD, set}
 use lib.Seq.{getD-set-same, getD-set-other}
-use borrow.Author.Tests.{leb-false, ltb-false, eq-eqb, ne-eqb}
-use Rattle.bounded.specs.Tests.{both}
+use borrow.Author.Tests.{eq-eqb, ne-eqb}
 use Rattle.table.specs.Rows.{tasksOf}
 use Rattle.table.specs.Verdict.{answerOf}
 use Rattle.session.specs.declared.Job.{Job}
 use Rattle.session.specs.declared.Session.{Session}
 use Rattle.session.specs.declared.Answer.{Answer}
-use Rattle.session.specs.Reading.{idle, clockEnd, noJob, jobAt}
+use Rattle.session.specs.Reading.{idle, noJob, jobAt}
 use Rattle.session.specs.Facts.{Running}
-use Rattle.session.specs.Calls.{shown, changed, arrivedJob, arriveIn, chooseIn, overJob, agedJobs, advanceIn, finishIn, arriveOf, chooseOf, advanceOf, finishOf}
+use Rattle.session.specs.Calls.{shown, changed, arrivedJob, overJob, agedJobs}
 use Rattle.session.specs.Admit.{freshOf, sessionOf}
 use Rattle.guarantee.specs.Ledger.{Call, arrive, choose, advance, finish, Entry, Ledger, empty, ran, ended, onLatest, noted, kept}
 use Rattle.guarantee.specs.Statement.{outcomeOf, InTime}
-use Rattle.guarantee.specs.Good.{Good}
+use Rattle.guarantee.specs.Good.{Good, good-places, in-table}
+use Rattle.guarantee.specs.Effects.{Effect, refusal, arrived, chosen, advanced, finished, effect-of}
+use Rattle.guarantee.specs.KeepsFresh.{fresh-job}
+use Rattle.guarantee.specs.KeepsAged.{agedAt}
 use Rattle.guarantee.specs.TiesRow.{Stands, waiting, Follows, nothing, other, InRow, stands-ended, stands-ran, follows-kept, follows-new, follows-changed, follows-other, follows-timely, each-timely}
-use Rattle.guarantee.specs.TiesJobs.{agedAt, aged-chosen, aged-other, places, in-table, time-left, none-waits, in-force, running, running-time}
+use Rattle.guarantee.specs.TiesJobs.{ran-chosen, ran-other, time-left, row-free, running-time}
 
 -- the clocks agree, so do the chosen rows where a choice is in force, and the entries of each row follow its job
 pub record Tied (l : List ℕ) (g : Ledger) (s : Session) : Type 0 where
@@ -41,7 +42,7 @@ module _ (l : List ℕ) (g : Ledger) (s : Session) (good : Good l s) (tied : Tie
       → ((i : ℕ) → ¬ (i ≡ k) → Follows (tasksOf l) i (jobAt s i) es)
       → (i : ℕ) → Follows (tasksOf l) i (getD (set (s .jobs) k j) i noJob) es
   set-rows k j es h same others i =
-      dite (ℕ-discrete i k) (λ e. rw (e, getD-set-same (s .jobs) k j noJob (omega (arith, places l s good))) same)
+      dite (ℕ-discrete i k) (λ e. rw (e, getD-set-same (s .jobs) k j noJob (omega (arith, good-places good))) same)
       (λ ne. rw (getD-set-other (s .jobs) k i j noJob ne) (others i ne))
 
   tied-arrive : (k : ℕ) (a : Answer) → k < s .count → jobAt s k .next ≤ s .clock
@@ -52,8 +53,8 @@ module _ (l : List ℕ) (g : Ledger) (s : Session) (good : Good l s) (tied : Tie
     chosen = λ force. absurd (omega arith);
     rows = set-rows k (arrivedJob s k) (noted (tasksOf l) g (arrive k) a .entries) h
         (rw (good .rows)
-        (follows-new (tasksOf l) k _ refl (none-waits l s good k h e)
-        (waiting (in-table l s good k h) (good .fit .row k (in-table l s good k h) .cost) refl (omega (arith, tied .clock)) (omega arith))
+        (follows-new (tasksOf l) k _ refl (row-free good k h e)
+        (waiting (in-table good k h) (good .fit .row k (in-table good k h) .cost) refl (omega (arith, tied .clock)) (omega arith))
         (tied .rows k)))
         (λ i ne. other (λ q. ne (sym q)) (tied .rows i));
   }
@@ -79,7 +80,7 @@ module _ (l : List ℕ) (g : Ledger) (s : Session) (good : Good l s) (tied : Tie
       → Tied l (noted (tasksOf l) g finish a) (changed s (s .clock) (set (s .jobs) (s .chosen) (overJob s (s .chosen))) 0 0)
   unfolding noted
   tied-finish a force r =
-      let t = running-time l s good force r in
+      let t = running-time good force r in
       record {
         clock = tied .clock;
         chosen = λ force. absurd (omega arith);
@@ -94,17 +95,17 @@ module _ (l : List ℕ) (g : Ledger) (s : Session) (good : Good l s) (tied : Tie
     -- a row that does not run
     idle-row : (i : ℕ) (es : List Entry) → (i < s .count → ¬ (i ≡ s .chosen))
         → Follows (tasksOf l) i (jobAt s i) es → Follows (tasksOf l) i (agedAt s n i) es
-    idle-row i es ne h = follows-kept (tasksOf l) i (aged-other s n (places l s good) i ne) h
+    idle-row i es ne h = follows-kept (tasksOf l) i (ran-other good n i ne) h
 
     -- the row that runs
     run-row : Running s
         → Follows (tasksOf l) (s .chosen) (agedAt s n (s .chosen)) (onLatest (g .chosen) (ran (tasksOf l) (g .clock + n) n) (g .entries))
     run-row r =
-        let t = running-time l s good force r in
+        let t = running-time good force r in
         chosen-row force r (ran (tasksOf l) (g .clock + n) n) (λ e. refl) (agedAt s n (s .chosen))
         (λ e q. stands-ran (tasksOf l) (s .chosen) (g .clock + n) n e q (t .0) (omega (arith, r .within))
         (omega (arith, tied .clock, t .1, r .within))
-        (aged-chosen s n (places l s good) (r .known)))
+        (ran-chosen good n (r .known)))
 
     -- under idle no entry changes
     advance-rows : (s .chosen ≡ idle) ⊎ Running s
@@ -131,44 +132,25 @@ module _ (l : List ℕ) (g : Ledger) (s : Session) (good : Good l s) (tied : Tie
 -- ---- any call: one that is refused changes neither
 
 module _ (l : List ℕ) (g : Ledger) (s : Session) (good : Good l s) (tied : Tied l g s) where
+  tied-effect : {c : Call} {s′ : Session} {a : Answer} → Effect s c s′ a → Tied l (kept (tasksOf l) g (record { call = c; answer = a })) s′
+  unfolding kept
+  tied-effect (refusal a h) = simp (ne-eqb (shown a .number) 0 (λ z. omega arith)) tied
+  tied-effect (arrived k row ready) = tied-arrive l g s good tied k _ row ready
+  tied-effect (chosen w) = tied-choose l g s good tied w _ _ _ refl
+  tied-effect (advanced n ch high end) = tied-advance l g s good tied n _ (ch .some) high (ch .runs)
+  tied-effect (finished ch r) = tied-finish l g s good tied _ (ch .some) r
+
   pub tied-call : (c : Call) → Tied l (kept (tasksOf l) g (record { call = c; answer = outcomeOf s c .answer })) (outcomeOf s c .session)
-  unfolding kept arriveOf arriveIn chooseOf chooseIn advanceOf advanceIn finishOf finishIn
-  tied-call (arrive k) =
-      simp (good .sound)
-      (both (leb (s .count) k) (λ e. simp e tied)
-      (λ e. both (ltb (s .clock) (jobAt s k .next)) (λ f. simp (e, f) tied)
-      (λ f. simp (e, f) (tied-arrive l g s good tied k _ (leb-false _ _ e) (ltb-false _ _ f)))))
-  tied-call (choose w) =
-      simp (good .sound)
-      (both (ltb 0 (s .span)) (λ e. simp e tied) (λ e. simp e (tied-choose l g s good tied w _ _ _ refl)))
-  tied-call (advance n) =
-      simp (good .sound)
-      (both (eqb (s .span) 0) (λ e. simp e tied)
-      (λ e. both (eqb n 0) (λ f. simp (e, f) tied)
-      (λ f. both (ltb (s .span) n) (λ h. simp (e, f, h) tied)
-      (λ h. both (ltb clockEnd (s .clock + n)) (λ k. simp (e, f, h, k) tied)
-      (λ k.
-      let c = in-force l s good e in
-      simp (e, f, h, k) (tied-advance l g s good tied n _ (c .some) (ltb-false _ _ h) (c .runs)))))))
-  tied-call finish =
-      simp (good .sound)
-      (both (eqb (s .span) 0) (λ e. simp e tied)
-      (λ e. both (eqb (s .chosen) idle) (λ f. simp (e, f) tied)
-      (λ f. simp (e, f) (tied-finish l g s good tied _ (in-force l s good e .some) (running l s good e f)))))
+  tied-call c = tied-effect (effect-of s (good .sound) c)
 
   -- an entry that has no end has the deadline of a waiting job, which is ahead of the clock
   pub tied-timely : InTime (tasksOf l) g
   tied-timely =
       each-timely (tasksOf l) (g .clock) (g .entries)
       (λ i. follows-timely (tasksOf l) i (g .clock)
-      (λ h some. omega (arith, tied .clock, time-left l s good i (omega (arith, good .count)) some)) (tied .rows i))
+      (λ h some. omega (arith, tied .clock, time-left good i (omega (arith, good .count)) some)) (tied .rows i))
 
 -- ---- a fresh session: no entry, and no job
-
-no-job : (n i : ℕ) → getD (replicate n noJob) i noJob ≡ noJob
-no-job zero i = refl
-no-job (suc n) zero = refl
-no-job (suc n) (suc i) = no-job n i
 
 pub tied-fresh : (l : List ℕ) (t : ℕ) → answerOf l t .number ≡ 0 → Tied l empty (sessionOf l t)
 unfolding sessionOf freshOf
@@ -177,5 +159,5 @@ tied-fresh l t e =
     (record {
       clock = refl;
       chosen = λ force. absurd (omega arith);
-      rows = λ i. nothing (ap (λ (j : Job). j .left) (no-job 16 i));
+      rows = λ i. nothing (ap (λ (j : Job). j .left) (fresh-job l (answerOf l t .first) i));
     })
