@@ -1,6 +1,6 @@
 -- Sums of a function over the indices below n, and their laws. Assumes nothing.
 use Prim.Native.Nat.{ℕ, zero, suc, _+_, _*_, _≤_, _<_}
-use mathlib.Core.Path.{_≡_, refl, sym, ap, _∙_}
+use mathlib.Core.Path.{_≡_, refl, ap, _∙_}
 use mathlib.Core.Logic.{dite}
 use native.Mathlib.Nat.{add-suc, le-of-eq}
 use native.Mathlib.Numerals.{add-one, unary-clauses}

@@ -1,35 +1,30 @@
 -- The code of the calls: each way out is a case of its definition (docs/SPECIFICATION.md §5.3, §5.5, §5.6). Assumes nothing.
 use Prim.Native.Nat.{ℕ, _+_, _-_, _*_, _≤_, _<_}
 use mathlib.Core.Path.{_≡_, refl, sym, ap, _∙_}
-use mathlib.Core.Bool.{Bool, true, false, _||_, cond}
-use mathlib.Core.List.{List}
-use mathlib.Core.Logic.{_⊎_, inl, inr, ⊎-elim, dite}
+use mathlib.Core.Bool.{Bool, true, false, cond}
+use mathlib.Core.Logic.{_⊎_, ⊎-elim}
 use native.Mathlib.Numerals.{add-one}
 use native.Mathlib.Omega.{arith}
-use native.Mathlib.Decide.{ℕ-discrete}
-use lib.Dec.{leb, ltb, eqb}
+use lib.Dec.{eqb}
 use lib.IntN.{ℤ}
 use lib.ListN.{length, set}
 use mir.Syntax.{w64}
 use mir.Val.{Fits}
-use lib.Seq.{length-take-le}
 use borrow.Author.Tests.{lt-ltb, le-ltb, le-leb, lt-leb, eq-eqb, ne-eqb}
 use Rattle.bounded.specs.Fold.{foldTo}
-use Rattle.edf.specs.Demand.{TaskSet}
 use Rattle.table.specs.declared.rows.Task.{Task}
-use Rattle.table.specs.Rows.{horizon, tasksOf, FitRow, Fit}
+use Rattle.table.specs.Rows.{horizon, FitRow, Fit}
 use Rattle.table.specs.Budgets.{budgetOf}
 use Rattle.session.specs.declared.Job.{Job}
 use Rattle.session.specs.declared.Session.{Session}
-use Rattle.session.specs.declared.Answer.{Answer}
-use Rattle.session.specs.declared.Answer.the-variants.{Arrived, Chosen, Advanced, Finished, Unsound, NoRow, TooEarly, InForce, NoChoice, BadStep, Idling, ClockEnd}
+use Rattle.session.specs.declared.Answer.the-variants.{Arrived, Advanced, Finished, NoRow, TooEarly, NoChoice, BadStep, Idling, ClockEnd}
 use Rattle.session.specs.declared.Outcome.{Outcome}
-use Rattle.session.specs.Reading.{idle, clockEnd, jobAt, rowsOf, tasks, ahead, startBy, startBudget}
+use Rattle.session.specs.Reading.{idle, clockEnd, jobAt, tasks, startBy, startBudget}
 use Rattle.session.specs.Sound.{sound}
 use Rattle.session.specs.Facts.{Facts, Choice, Running, facts-of, facts-fit}
 use Rattle.session.specs.Ahead.{aheadBy, DueOf, ahead-is}
 use Rattle.session.specs.Soundness.{rows-count}
-use Rattle.session.specs.Calls.{refused, accepted, changed, guarded, arrivedJob, arriveIn, arriveOf, overJob, agedJob, agedJobs, overAfter, advanceIn, advanceOf, finishIn, finishOf, chooseIn, chooseOf}
+use Rattle.session.specs.Calls.{refused, changed, arrivedJob, arriveIn, overJob, agedJob, agedJobs, overAfter, advanceIn, finishIn}
 
 -- ---- what soundness gives the code
 

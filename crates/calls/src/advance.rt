@@ -59,7 +59,7 @@ fn chosen_due(s: Session) -> u64
     ensures { λ r. ⌜ DueOf s (s .chosen) r ⌝ }
 {
     let c = s.chosen;
-    if c == 16 {
+    if c == Session::IDLE {
         return 0;
     }
     let j = s.jobs[c as usize];
@@ -90,7 +90,7 @@ fn over_after(s: Session, n: u64) -> u64
     ensures { λ r. ⌜ r ≡ overAfter s n ⌝ }
 {
     let c = s.chosen;
-    if c == 16 {
+    if c == Session::IDLE {
         return 0;
     }
     let j = s.jobs[c as usize];

@@ -20,7 +20,7 @@ pub fn finish_sound(s: Session) -> Outcome
     if span == 0 {
         return refuse(s, Answer::NoChoice);
     }
-    if c == 16 {
+    if c == Session::IDLE {
         return refuse(s, Answer::Idling);
     }
     let i = c as usize;

@@ -1,1 +1,1 @@
-// No code: the marked tables of document 01 and the theorem about them stand in specs/.
+// No code: the marked tables and moments, and the theorem about them, stand in specs/.

@@ -6,14 +6,13 @@ use mathlib.Core.List.{List}
 use lib.Dec.{leb, ltb, eqb}
 use lib.ListN.{set}
 use Rattle.bounded.specs.Fold.{foldTo}
-use Rattle.table.specs.Rows.{horizon}
 use Rattle.session.specs.declared.Job.{Job}
 use Rattle.session.specs.declared.Session.{Session}
 use Rattle.session.specs.declared.Numbers.{Numbers}
 use Rattle.session.specs.declared.Answer.{Answer}
 use Rattle.session.specs.declared.Answer.the-variants.{Arrived, Chosen, Advanced, Finished, Unsound, NoRow, TooEarly, InForce, NoChoice, BadStep, Idling, ClockEnd}
 use Rattle.session.specs.declared.Outcome.{Outcome}
-use Rattle.session.specs.Reading.{idle, clockEnd, noJob, jobAt, tasks, waits, ahead, startBudget}
+use Rattle.session.specs.Reading.{idle, clockEnd, jobAt, tasks, ahead, startBudget}
 use Rattle.session.specs.Sound.{sound}
 use Rattle.session.specs.Choose.{pickOf, pickUsed, spanOf, usedOf}
 

@@ -1,6 +1,6 @@
 -- A call is the check of soundness and then its core. Assumes nothing.
 use mathlib.Core.Path.{_≡_, sym, _∙_}
-use mathlib.Core.Bool.{Bool, true, false, cond}
+use mathlib.Core.Bool.{Bool, true, false}
 use Rattle.session.specs.declared.Session.{Session}
 use Rattle.session.specs.declared.Answer.the-variants.{Unsound}
 use Rattle.session.specs.declared.Outcome.{Outcome}

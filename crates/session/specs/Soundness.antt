@@ -1,12 +1,12 @@
 -- The code that decides soundness, row by row (docs/SPECIFICATION.md §5.2). Assumes nothing.
 use Prim.Native.Nat.{ℕ, _+_, _*_, _≤_, _<_}
 use mathlib.Core.Path.{_≡_, refl, sym, ap, _∙_}
-use mathlib.Core.Bool.{Bool, true, false, not, _&&_, _||_, cond, true≢false, false≢true}
+use mathlib.Core.Bool.{Bool, true, false, not, _&&_, _||_, true≢false, false≢true}
 use mathlib.Core.List.{List}
 use native.Mathlib.Omega.{arith}
 use lib.Dec.{leb, ltb, eqb}
 use lib.IntN.{ℤ, pos, negsuc, natAbs}
-use lib.ListN.{getD, length, take}
+use lib.ListN.{getD, length}
 use lib.Seq.{length-take-le}
 use borrow.Author.Tests.{lt-ltb, le-ltb, le-leb, lt-leb, eq-eqb, ne-eqb}
 use Rattle.bounded.specs.All.{allTo}
@@ -15,14 +15,14 @@ use Rattle.edf.specs.Demand.{TaskSet}
 use Rattle.table.specs.declared.rows.Task.{Task}
 use Rattle.table.specs.declared.Numbers.{Numbers}
 use Rattle.table.specs.declared.Assessment.{Assessment}
-use Rattle.table.specs.Rows.{horizon, tasksOf, Row, FitRow, Fit}
-use Rattle.table.specs.Budgets.{budgetOf, valuesOf, values-at}
+use Rattle.table.specs.Rows.{horizon, tasksOf, FitRow, Fit}
+use Rattle.table.specs.Budgets.{valuesOf, values-at}
 use Rattle.table.specs.Verdict.{Answer, answerOf}
 use Rattle.table.specs.Assess.{shownOf, Shows, shows-of, Assessed}
 use Rattle.table.specs.Theorems.{answer-fit, answer-number, answer-admitted}
 use Rattle.session.specs.declared.Job.{Job}
 use Rattle.session.specs.declared.Session.{Session}
-use Rattle.session.specs.Reading.{idle, clockEnd, jobAt, rowsOf, tasks, waits, ahead, natural, startBy, startBudget}
+use Rattle.session.specs.Reading.{idle, clockEnd, jobAt, rowsOf, tasks, waits, natural, startBy, startBudget}
 use Rattle.session.specs.Sound.{soundRows, soundWaiting, soundJob, runs, affords, soundChoice, sound}
 use Rattle.session.specs.Ahead.{aheadBy, DueOf, ahead-is}
 

@@ -19,7 +19,7 @@ pub fn is_ahead(j: Job, c: u64, due: u64) -> bool
     if j.left < 1 {
         return false;
     }
-    if c == 16 {
+    if c == Session::IDLE {
         return true;
     }
     j.due < due
@@ -63,10 +63,10 @@ fn choice_sound(s: Session) -> bool
     if span == 0 {
         return true;
     }
-    if 1000000 < span {
+    if Session::HORIZON < span {
         return false;
     }
-    if c == 16 {
+    if c == Session::IDLE {
         return covered(s, c, 0, span);
     }
     if count <= c {
@@ -158,7 +158,7 @@ pub fn is_sound(s: Session) -> bool
     ensures { λ r. ⌜ r ≡ sound s ⌝ }
 {
     let count = s.count;
-    if 16 < count {
+    if Session::ROWS < count {
         return false;
     }
     let words = s.words;

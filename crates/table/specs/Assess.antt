@@ -1,17 +1,17 @@
 -- What `assess` promises, and the cases of its code. Assumes nothing.
 use Prim.Native.Nat.{ℕ, _%_, _≤_, _<_, min}
 use mathlib.Core.Path.{_≡_, refl, sym, ap, _∙_}
-use mathlib.Core.Bool.{Bool, true, false, not, _||_, cond, true≢false}
+use mathlib.Core.Bool.{Bool, true, false, not, true≢false}
 use mathlib.Core.Logic.{dite}
 use mathlib.Core.List.{List, []}
 use native.Mathlib.Omega.{arith}
 use native.Mathlib.Decide.{decLe}
-use lib.Dec.{leb, ltb, eqb}
+use lib.Dec.{ltb, eqb}
 use lib.IntN.{ℤ, pos}
 use lib.ListN.{length, replicate}
 use borrow.Author.Tests.{eq-eqb, ne-eqb, lt-ltb, le-ltb, le-leb, lt-leb, ltb-true, ltb-false, eqb-true, eqb-false}
 use Rattle.bounded.specs.Tests.{both}
-use Rattle.bounded.specs.Least.{leastFrom, least-none, least-before, least-high}
+use Rattle.bounded.specs.Least.{leastFrom, least-none, least-before}
 use Rattle.edf.specs.Demand.{TaskSet, demand}
 use Rattle.table.specs.declared.Verdict.{Verdict}
 use Rattle.table.specs.declared.Verdict.the-variants.{Loose, Tight, Length, Row, Overload, Unsettled}
@@ -24,9 +24,9 @@ use Rattle.table.specs.Rows.{horizon, tasksOf, firstBroken, Fit, fit-of}
 use Rattle.table.specs.Budgets.{loose, valuesOf, budgetsOf}
 use Rattle.table.specs.Busy.{busyLength, Settled}
 use Rattle.table.specs.Overload.{Outcome, over, none, Searched}
-use Rattle.table.specs.Verdict.{Answer, refusal, badLength, comparedTo, firstOverload, overloaded, settled, opinionOf, answerOf, Exceeded}
+use Rattle.table.specs.Verdict.{Answer, badLength, comparedTo, firstOverload, overloaded, settled, opinionOf, answerOf, Exceeded}
 
--- document 01's number of each verdict, and its two values
+-- each verdict's number, and its two values (docs/SPECIFICATION.md §3.2)
 abbrev pub shown : Verdict → List ℤ → Answer
 shown (Loose n) v = record { number = 0; first = 1; second = n; budgets = v }
 shown (Tight n) v = record { number = 0; first = 2; second = n; budgets = v }

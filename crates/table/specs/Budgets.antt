@@ -1,18 +1,18 @@
 -- V of each row, the inversion budget, and what makes a table loose (docs/SPECIFICATION.md §2.2, §3.1). Assumes nothing.
 use Prim.Native.Nat.{ℕ, _+_, _≤_, _<_}
 use mathlib.Core.Path.{_≡_, refl, sym, ap, _∙_}
-use mathlib.Core.Bool.{Bool, true, false, not, _&&_, cond}
+use mathlib.Core.Bool.{Bool, true, false, not, _&&_}
 use mathlib.Core.List.{List}
 use native.Mathlib.Omega.{arith}
 use native.Mathlib.Numerals.{add-one}
 use lib.Dec.{eqb}
 use lib.IntN.{ℤ, pos, _-ℤ_}
 use lib.ListN.{getD, set, replicate, length-replicate}
-use borrow.Author.Tests.{eq-eqb, ne-eqb, not-false, ltb-false}
+use borrow.Author.Tests.{eq-eqb, ne-eqb}
 use Rattle.bounded.specs.Tests.{gate, gate-on, gate-off}
 use Rattle.bounded.specs.Fold.{foldTo, put-at}
-use Rattle.bounded.specs.All.{allTo, all-at}
-use Rattle.bounded.specs.Signed.{difference, negative, difference-negative}
+use Rattle.bounded.specs.All.{allTo}
+use Rattle.bounded.specs.Signed.{difference, negative}
 use Rattle.edf.specs.Demand.{TaskSet, rowRequest, interference}
 use Rattle.table.specs.declared.rows.Task.{Task}
 use Rattle.table.specs.declared.budgets.Budgets.{Budgets}

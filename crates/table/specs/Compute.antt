@@ -1,7 +1,7 @@
 -- An answer computed with no look past the tick that decides it: the definitions search up to 1,000,000. Assumes nothing.
 use Prim.Native.Nat.{ℕ, zero, suc, _≤_, _<_}
 use mathlib.Core.Path.{_≡_, sym}
-use mathlib.Core.Bool.{Bool, true, false, not, _&&_, cond}
+use mathlib.Core.Bool.{Bool, true, false, not, _&&_}
 use mathlib.Core.List.{List}
 use mathlib.Core.Logic.{dite}
 use native.Mathlib.Omega.{arith}
@@ -11,7 +11,7 @@ use lib.ListN.{length}
 use borrow.Author.Tests.{le-leb, lt-ltb, le-ltb, eq-eqb, leb-true, eqb-false, not-true}
 use Rattle.bounded.specs.Tests.{and-true}
 use Rattle.bounded.specs.All.{allTo, all-at}
-use Rattle.bounded.specs.Least.{leastFrom, least-found}
+use Rattle.bounded.specs.Least.{least-found}
 use Rattle.bounded.specs.Fixed.{leastFixed, fixed-low, fixed-at}
 use Rattle.edf.specs.Demand.{TaskSet, demand, request}
 use Rattle.table.specs.Rows.{horizon, tasksOf, firstBroken}

@@ -2,8 +2,8 @@
 -- (docs/SPECIFICATION.md §3.1). Rows of short period are counted by their share of time, and the others by what is due of
 -- them by t. Assumes nothing.
 use Prim.Native.Nat.{ℕ, suc, _+_, _-_, _*_, _/_, _≤_, _<_, min}
-use mathlib.Core.Path.{_≡_, refl, sym, ap, _∙_}
-use mathlib.Core.Bool.{Bool, true, false, not, cond}
+use mathlib.Core.Path.{_≡_, sym, ap, _∙_}
+use mathlib.Core.Bool.{not, cond}
 use mathlib.Core.Logic.{dite}
 use native.Mathlib.Omega.{arith}
 use native.Mathlib.Nat.{mul-le-mul, mul-le-mul-left, mul-le-mul-right, lt-div-mul-add, div-lt-iff-lt-mul}
@@ -11,13 +11,13 @@ use native.Mathlib.Decide.{decLe}
 use lib.Dec.{leb, ltb}
 use mir.Syntax.{w64}
 use mir.Val.{Fits}
-use borrow.Author.Tests.{le-leb, lt-leb, lt-ltb, le-ltb, leb-true, leb-false}
+use borrow.Author.Tests.{le-leb, lt-leb, lt-ltb, le-ltb, leb-false}
 use Rattle.bounded.specs.Tests.{both, gate, gate-on, gate-off}
 use Rattle.bounded.specs.Sum.{sumTo, sum-le, sum-add, sum-mul, sum-start, sum-next, sum-done}
 use Rattle.edf.specs.Jobs.{jobsBy, jobs-mono, jobs-room}
 use Rattle.edf.specs.Demand.{TaskSet, rowDemand, demand}
 use Rattle.table.specs.declared.rows.Task.{Task}
-use Rattle.table.specs.Rows.{horizon, Fit, FitRow}
+use Rattle.table.specs.Rows.{Fit, FitRow}
 use Rattle.table.specs.Bound.{Within}
 use Rattle.table.specs.Leap.{scale, shorter}
 

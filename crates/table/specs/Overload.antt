@@ -4,7 +4,7 @@ use mathlib.Core.Path.{_≡_}
 use mathlib.Core.Logic.{dite}
 use native.Mathlib.Omega.{arith}
 use native.Mathlib.Decide.{decLe}
-use Rattle.edf.specs.Demand.{TaskSet, Lawful, demand, quick-search}
+use Rattle.edf.specs.Demand.{TaskSet, demand, quick-search}
 use Rattle.table.specs.declared.overload.Found.{Found}
 use Rattle.table.specs.Rows.{Fit, fit-lawful}
 use Rattle.table.specs.Bound.{Within}

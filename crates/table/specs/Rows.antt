@@ -9,7 +9,7 @@ use lib.ListN.{length, getD}
 use borrow.Author.Tests.{le-leb, lt-leb, leb-true, not-false}
 use Rattle.bounded.specs.Tests.{and-true}
 use Rattle.bounded.specs.Least.{leastFrom, least-before}
-use Rattle.edf.specs.Demand.{TaskSet, LawfulRow, Lawful}
+use Rattle.edf.specs.Demand.{TaskSet, Lawful}
 use Rattle.table.specs.declared.rows.Task.{Task}
 
 -- the longest time that a row may name, and the last tick that admission looks at

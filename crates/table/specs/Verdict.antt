@@ -1,6 +1,5 @@
--- The verdict on a table, in document 01's numbers (docs/SPECIFICATION.md §3). Assumes nothing.
+-- The verdict on a table, by its number and values (docs/SPECIFICATION.md §3). Assumes nothing.
 use Prim.Native.Nat.{ℕ, _%_, _≤_, _<_, min}
-use mathlib.Core.Path.{_≡_}
 use mathlib.Core.Bool.{Bool, not, _||_, cond}
 use mathlib.Core.List.{List}
 use lib.Dec.{leb, ltb, eqb}

@@ -1,5 +1,4 @@
 -- `calls::arrive::arrive_sound` meets its contract. Assumes nothing.
-use native.Mathlib.Omega.{arith}
 use borrow.Author.Needs.{needs}
 use Rattle.session.specs.Facts.{facts-of}
 use Rattle.calls.specs.Code.{arrive-cases}

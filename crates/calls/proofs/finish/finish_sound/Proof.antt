@@ -1,6 +1,6 @@
 -- `calls::finish::finish_sound` meets its contract. Assumes nothing.
 use borrow.Author.Needs.{needs}
-use Rattle.calls.specs.Code.{finish-cases, in-force}
+use Rattle.calls.specs.Code.{finish-cases}
 use Rattle.calls.specs.Code.{places}
 use Rattle.calls.proofs.finish.finish_sound.Statement.{statement}
 use Rattle.calls.proofs.finish.finish_sound.Tie as tie

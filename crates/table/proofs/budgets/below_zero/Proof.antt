@@ -1,6 +1,5 @@
 -- `table::budgets::below_zero` meets its contract. Assumes nothing.
 use mir.Facts.{toZ-ofZ}
-use borrow.Author.Needs.{needs}
 use Rattle.bounded.specs.Signed.{negative-lt}
 use Rattle.table.proofs.budgets.below_zero.Statement.{statement}
 use Rattle.table.proofs.budgets.below_zero.Tie as tie

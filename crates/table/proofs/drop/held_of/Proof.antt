@@ -1,16 +1,13 @@
-use mathlib.Core.Path.{_≡_}
+-- `table::drop::held_of` meets its contract. Assumes nothing.
 use Prim.Native.Nat.{_≤_, _-_, _*_}
+use mathlib.Core.Path.{_≡_}
+use borrow.Author.Needs.{needs}
 use Rattle.bounded.specs.Sum.{sumTo}
 use Rattle.table.specs.Bound.{total-laws}
-use Rattle.table.specs.Rows.{tasksOf}
 use Rattle.table.specs.Drop.{heldOf}
-use borrow.Author.Needs.{needs}
+use Rattle.table.specs.Rows.{tasksOf}
 use Rattle.table.proofs.drop.held_of.Statement.{statement}
 use Rattle.table.proofs.drop.held_of.Tie as tie
-use Rattle.table.proofs.drop.held_of.Reads as reads
-use Rattle.table.proofs.drop.held_of.Lts as lts
-use Rattle.table.proofs.drop.hold.Reads as hold-reads
-use Rattle.table.proofs.rows.count.Reads as count-reads
 
 abbrev Inv-loop : tie.InvT-loop
 Inv-loop words t k n sum₀ i₀ sum i = (i ≤ n) × (sum ≡ sumTo (heldOf (tasksOf words) t k) i) × (sum ≤ 1000000000000 * i)
@@ -18,35 +15,27 @@ Inv-loop words t k n sum₀ i₀ sum i = (i ≤ n) × (sum ≡ sumTo (heldOf (ta
 abbrev μ-loop : tie.MeasureT-loop
 μ-loop words t k n sum₀ i₀ sum i = n - i
 
--- src/drop.rt:77:9
 count-requires : tie.Need-count-requires Inv-loop μ-loop
 count-requires c κs = search needs
 
--- src/drop.rt:80:5
 loop-holds : tie.Need-loop-holds Inv-loop μ-loop
 loop-holds c = search (needs, total-laws)
 
--- src/drop.rt:81:21
 hold-requires : tie.Need-hold-requires Inv-loop μ-loop
 hold-requires c κs = search needs
 
--- src/drop.rt:81:15
 add-sum : tie.Need-add-sum Inv-loop μ-loop
 add-sum c = search needs
 
--- src/drop.rt:82:13
 add-i : tie.Need-add-i Inv-loop μ-loop
 add-i c = search needs
 
--- src/drop.rt:80:5
 loop-less : tie.Need-loop-less Inv-loop μ-loop
 loop-less c = search needs
 
--- src/drop.rt:80:5
 loop-again : tie.Need-loop-again Inv-loop μ-loop
 loop-again c = search (needs, total-laws)
 
--- src/drop.rt:73:1
 returns : tie.Need-returns Inv-loop μ-loop
 returns c = search (needs, total-laws)
 

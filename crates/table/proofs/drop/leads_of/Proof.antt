@@ -1,15 +1,12 @@
-use mathlib.Core.Path.{_≡_}
+-- `table::drop::leads_of` meets its contract. Assumes nothing.
 use Prim.Native.Nat.{_≤_, _-_, _*_}
-use Rattle.bounded.specs.Sum.{sumTo}
-use Rattle.table.specs.Rows.{tasksOf}
-use Rattle.table.specs.Drop.{leadOf, rise-laws}
+use mathlib.Core.Path.{_≡_}
 use borrow.Author.Needs.{needs}
+use Rattle.bounded.specs.Sum.{sumTo}
+use Rattle.table.specs.Drop.{leadOf, rise-laws}
+use Rattle.table.specs.Rows.{tasksOf}
 use Rattle.table.proofs.drop.leads_of.Statement.{statement}
 use Rattle.table.proofs.drop.leads_of.Tie as tie
-use Rattle.table.proofs.drop.leads_of.Reads as reads
-use Rattle.table.proofs.drop.leads_of.Lts as lts
-use Rattle.table.proofs.drop.lead.Reads as lead-reads
-use Rattle.table.proofs.rows.count.Reads as count-reads
 
 abbrev Inv-loop : tie.InvT-loop
 Inv-loop words k n sum₀ i₀ sum i = (i ≤ n) × (sum ≡ sumTo (leadOf (tasksOf words) k) i) × (sum ≤ 5000000000000000 * i)
@@ -17,35 +14,27 @@ Inv-loop words k n sum₀ i₀ sum i = (i ≤ n) × (sum ≡ sumTo (leadOf (task
 abbrev μ-loop : tie.MeasureT-loop
 μ-loop words k n sum₀ i₀ sum i = n - i
 
--- src/drop.rt:51:9
 count-requires : tie.Need-count-requires Inv-loop μ-loop
 count-requires c κs = search needs
 
--- src/drop.rt:54:5
 loop-holds : tie.Need-loop-holds Inv-loop μ-loop
 loop-holds c = search (needs, rise-laws)
 
--- src/drop.rt:55:21
 lead-requires : tie.Need-lead-requires Inv-loop μ-loop
 lead-requires c κs = search needs
 
--- src/drop.rt:55:15
 add-sum : tie.Need-add-sum Inv-loop μ-loop
 add-sum c = search needs
 
--- src/drop.rt:56:13
 add-i : tie.Need-add-i Inv-loop μ-loop
 add-i c = search needs
 
--- src/drop.rt:54:5
 loop-less : tie.Need-loop-less Inv-loop μ-loop
 loop-less c = search needs
 
--- src/drop.rt:54:5
 loop-again : tie.Need-loop-again Inv-loop μ-loop
 loop-again c = search (needs, rise-laws)
 
--- src/drop.rt:47:1
 returns : tie.Need-returns Inv-loop μ-loop
 returns c = search (needs, rise-laws)
 

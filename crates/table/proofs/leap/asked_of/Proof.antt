@@ -1,16 +1,13 @@
-use mathlib.Core.Path.{_≡_}
+-- `table::leap::asked_of` meets its contract. Assumes nothing.
 use Prim.Native.Nat.{_≤_, _-_, _*_}
+use mathlib.Core.Path.{_≡_}
+use borrow.Author.Needs.{needs}
 use Rattle.bounded.specs.Sum.{sumTo}
 use Rattle.table.specs.Bound.{total-laws}
-use Rattle.table.specs.Rows.{tasksOf}
 use Rattle.table.specs.Leap.{askedOf}
-use borrow.Author.Needs.{needs}
+use Rattle.table.specs.Rows.{tasksOf}
 use Rattle.table.proofs.leap.asked_of.Statement.{statement}
 use Rattle.table.proofs.leap.asked_of.Tie as tie
-use Rattle.table.proofs.leap.asked_of.Reads as reads
-use Rattle.table.proofs.leap.asked_of.Lts as lts
-use Rattle.table.proofs.leap.ask.Reads as ask-reads
-use Rattle.table.proofs.rows.count.Reads as count-reads
 
 abbrev Inv-loop : tie.InvT-loop
 Inv-loop words r k n sum₀ i₀ sum i = (i ≤ n) × (sum ≡ sumTo (askedOf (tasksOf words) r k) i) × (sum ≤ 1000000000000 * i)
@@ -18,35 +15,27 @@ Inv-loop words r k n sum₀ i₀ sum i = (i ≤ n) × (sum ≡ sumTo (askedOf (t
 abbrev μ-loop : tie.MeasureT-loop
 μ-loop words r k n sum₀ i₀ sum i = n - i
 
--- src/leap.rt:54:9
 count-requires : tie.Need-count-requires Inv-loop μ-loop
 count-requires c κs = search needs
 
--- src/leap.rt:57:5
 loop-holds : tie.Need-loop-holds Inv-loop μ-loop
 loop-holds c = search (needs, total-laws)
 
--- src/leap.rt:58:21
 ask-requires : tie.Need-ask-requires Inv-loop μ-loop
 ask-requires c κs = search needs
 
--- src/leap.rt:58:15
 add-sum : tie.Need-add-sum Inv-loop μ-loop
 add-sum c = search needs
 
--- src/leap.rt:59:13
 add-i : tie.Need-add-i Inv-loop μ-loop
 add-i c = search needs
 
--- src/leap.rt:57:5
 loop-less : tie.Need-loop-less Inv-loop μ-loop
 loop-less c = search needs
 
--- src/leap.rt:57:5
 loop-again : tie.Need-loop-again Inv-loop μ-loop
 loop-again c = search (needs, total-laws)
 
--- src/leap.rt:50:1
 returns : tie.Need-returns Inv-loop μ-loop
 returns c = search (needs, total-laws)
 

@@ -1,12 +1,9 @@
-use Rattle.table.specs.Rows.{tasksOf}
-use Rattle.table.specs.Overload.{Clear, overload-laws}
+-- `table::overload::search` meets its contract. Assumes nothing.
 use borrow.Author.Needs.{needs}
+use Rattle.table.specs.Overload.{Clear, overload-laws}
+use Rattle.table.specs.Rows.{tasksOf}
 use Rattle.table.proofs.overload.search.Statement.{statement}
 use Rattle.table.proofs.overload.search.Tie as tie
-use Rattle.table.proofs.overload.search.Reads as reads
-use Rattle.table.proofs.overload.search.Lts as lts
-use Rattle.table.proofs.demand.demand_at.Reads as demand-at-reads
-use Rattle.table.proofs.drop.lower.Reads as lower-reads
 
 abbrev Inv-loop : tie.InvT-loop
 Inv-loop words end t₀ sums₀ t sums = Clear (tasksOf words) end t sums
@@ -14,35 +11,27 @@ Inv-loop words end t₀ sums₀ t sums = Clear (tasksOf words) end t sums
 abbrev μ-loop : tie.MeasureT-loop
 μ-loop words end t₀ sums₀ t sums = t
 
--- src/overload.rt:23:5
 loop-holds : tie.Need-loop-holds Inv-loop μ-loop
 loop-holds c = search (needs, overload-laws)
 
--- src/overload.rt:24:13
 demand-at-requires : tie.Need-demand-at-requires Inv-loop μ-loop
 demand-at-requires c κs = search needs
 
--- src/overload.rt:25:16
 add-sums : tie.Need-add-sums Inv-loop μ-loop
 add-sums c = search needs
 
--- src/overload.rt:27:13
 returns : tie.Need-returns Inv-loop μ-loop
 returns c = search (needs, overload-laws)
 
--- src/overload.rt:33:9
 lower-requires : tie.Need-lower-requires Inv-loop μ-loop
 lower-requires c κs = search needs
 
--- src/overload.rt:23:5
 loop-less : tie.Need-loop-less Inv-loop μ-loop
 loop-less c = search (needs, overload-laws)
 
--- src/overload.rt:23:5
 loop-again : tie.Need-loop-again Inv-loop μ-loop
 loop-again c = search (needs, overload-laws)
 
--- src/overload.rt:17:1
 returns-2 : tie.Need-returns-2 Inv-loop μ-loop
 returns-2 c = search (needs, overload-laws)
 

@@ -1,5 +1,4 @@
 -- `table::rows::breaks` meets its contract. Assumes nothing.
-use native.Mathlib.Omega.{arith}
 use borrow.Author.Needs.{needs}
 use Rattle.table.specs.Rows.{broken-cases}
 use Rattle.table.proofs.rows.breaks.Statement.{statement}
