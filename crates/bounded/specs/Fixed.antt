@@ -1,6 +1,6 @@
 -- The least fixed point, from 1 up, of a function that never falls, and how a loop reaches it. Assumes nothing.
 use Prim.Native.Nat.{ℕ, _+_, _≤_, _<_}
-use mathlib.Core.Path.{_≡_, subst}
+use mathlib.Core.Path.{_≡_}
 use native.Mathlib.Omega.{arith}
 use lib.Dec.{eqb}
 use borrow.Author.Tests.{eq-eqb, ne-eqb, eqb-true, eqb-false}
@@ -22,9 +22,6 @@ pub fixed-before : (f : ℕ → ℕ) (cap q : ℕ) → 1 ≤ q → q < leastFixe
 unfolding leastFixed
 fixed-before f cap q l h = eqb-false _ _ (least-before (λ r. eqb (f r) r) 1 cap q l h)
 
-abbrev pub Mono : (ℕ → ℕ) → Type 0
-Mono f = (a b : ℕ) → a ≤ b → f a ≤ f b
-
 -- a loop's value r on the way: f does not lower it, and no fixed point is below it
 pub record Climbing (f : ℕ → ℕ) (cap r : ℕ) : Type 0 where
   pub low : 1 ≤ r
@@ -35,21 +32,6 @@ pub record Climbing (f : ℕ → ℕ) (cap r : ℕ) : Type 0 where
 pub climb-start : (f : ℕ → ℕ) (cap : ℕ) → 1 ≤ cap → 1 ≤ f 1 → Climbing f cap 1
 climb-start f cap h l = record { low = omega arith; high = h; up = l; under = λ q p e. p }
 
--- a fixed point that r is at most, f r is at most
-below : (f : ℕ → ℕ) → Mono f → (r q : ℕ) → r ≤ q → f q ≡ q → f r ≤ q
-below f m r q l e = subst (λ (z : ℕ). f r ≤ z) e (m r q l)
-
-pub climb-next : (f : ℕ → ℕ) (cap r n : ℕ) → Mono f → Climbing f cap r → n ≡ f r → n ≤ cap → Climbing f cap n
-climb-next f cap r n m c e h = record {
-  low = omega (arith, c .low, c .up);
-  high = h;
-  up = let u : f r ≤ f n = m r n (omega (arith, c .up)) in omega arith;
-  under = λ q p x. let u : f r ≤ q = below f m r q (c .under q p x) x in omega arith;
-}
-
-pub climb-more : (f : ℕ → ℕ) (cap r n : ℕ) → Climbing f cap r → n ≡ f r → (n ≡ r → ⊥) → r < n
-climb-more f cap r n c e h = omega (arith, c .up)
-
 -- the loop may go on from any x past f r that no fixed point from r on is below, and that f does not lower
 pub climb-far : (f : ℕ → ℕ) (cap r n x : ℕ) → Climbing f cap r → n ≡ f r → n ≤ x → ((q : ℕ) → r ≤ q → f q ≡ q → x ≤ q)
     → (r ≤ x → x ≤ cap → x ≤ f x) → x ≤ cap → Climbing f cap x
@@ -59,6 +41,9 @@ climb-far f cap r n x c e m under up h = record {
   up = up (omega (arith, c .up)) h;
   under = λ q p y. under q (c .under q p y) y;
 }
+
+pub climb-more : (f : ℕ → ℕ) (cap r n : ℕ) → Climbing f cap r → n ≡ f r → (n ≡ r → ⊥) → r < n
+climb-more f cap r n c e h = omega (arith, c .up)
 
 -- the ways in which the loop ends
 pub climb-least : (f : ℕ → ℕ) (cap r n : ℕ) → Climbing f cap r → n ≡ f r → n ≡ r → r ≡ leastFixed f cap
@@ -71,9 +56,3 @@ pub climb-past : (f : ℕ → ℕ) (cap r x : ℕ) → Climbing f cap r → ((q 
 unfolding leastFixed
 climb-past f cap r x c under h =
     least-none (λ r. eqb (f r) r) 1 cap (λ j l k. ne-eqb (f j) j (λ y. omega (arith, under j (c .under j l y) y)))
-
-pub climb-passed : (f : ℕ → ℕ) (cap r n : ℕ) → Mono f → Climbing f cap r → n ≡ f r → cap < n → 1 + cap ≡ leastFixed f cap
-unfolding leastFixed
-climb-passed f cap r n m c e h =
-    least-none (λ r. eqb (f r) r) 1 cap
-    (λ j l k. ne-eqb (f j) j (λ x. let u : f r ≤ j = below f m r j (c .under j l x) x in omega arith))

@@ -1,6 +1,6 @@
 -- What a loop over 0, 1, .., n - 1 makes of a value, and its laws. Assumes nothing.
 use Prim.Native.Nat.{ℕ, zero, suc, _+_, _≤_, _<_}
-use mathlib.Core.Path.{_≡_, refl, ap, _∙_}
+use mathlib.Core.Path.{_≡_, refl, _∙_}
 use mathlib.Core.List.{List}
 use mathlib.Core.Logic.{dite}
 use native.Mathlib.Numerals.{add-one}
@@ -34,18 +34,12 @@ put-past f l zero d i h = refl
 put-past f l (suc n) d i h =
     getD-set-other (foldTo (λ v i. set v i (f i)) l n) n i (f n) d (λ e. omega arith) ∙ put-past f l n d i (omega arith)
 
--- ---- for a loop: its start, one turn, and its end, as `search` asks for them
+-- ---- for a loop that puts f i at each place i: its start, and one turn
 
-pub fold-start : {A : Type 0} (g : A → ℕ → A) (a : A) → a ≡ foldTo g a 0
+pub put-start : {A : Type 0} (f : ℕ → A) (l : List A) → l ≡ foldTo (λ v i. set v i (f i)) l 0
 unfolding foldTo
-fold-start g a = refl
+put-start f l = refl
 
-pub fold-next : {A : Type 0} (g : A → ℕ → A) (a x y : A) (i : ℕ) → x ≡ foldTo g a i → y ≡ g x i → y ≡ foldTo g a (i + 1)
+pub put-next : {A : Type 0} (f : ℕ → A) (l x : List A) (i : ℕ) (b : A) → x ≡ foldTo (λ v i. set v i (f i)) l i → b ≡ f i → set x i b ≡ foldTo (λ v i. set v i (f i)) l (i + 1)
 unfolding foldTo
-fold-next g a x y i e f = rw add-one (f ∙ ap (λ z. g z i) e)
-
--- the loop's bound n is the length m that the definition names
-pub fold-done : {A : Type 0} (g : A → ℕ → A) (a x : A) (i n m : ℕ) → x ≡ foldTo g a i → i ≤ n → n ≤ i → n ≡ m → x ≡ foldTo g a m
-fold-done g a x i n m e l h k = let j : i ≡ m = omega arith in e ∙ ap (foldTo g a) j
-
-pub ruleset fold-laws = (fold-start, fold-next, fold-done)
+put-next f l x i b e h = rw (add-one, e, h)

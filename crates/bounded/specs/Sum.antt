@@ -38,9 +38,6 @@ unfolding sumTo
 sum-const c zero = omega arith
 sum-const c (suc n) = let ih = sum-const c n in omega arith
 
-pub sum-bound : (f : ℕ → ℕ) (c n : ℕ) → ((i : ℕ) → i < n → f i ≤ c) → sumTo f n ≤ c * n
-sum-bound f c n h = omega (arith, sum-le f (λ i. c) n h, sum-const c n)
-
 pub sum-zero : (f : ℕ → ℕ) (n : ℕ) → ((i : ℕ) → i < n → f i ≡ 0) → sumTo f n ≡ 0
 unfolding sumTo
 sum-zero f zero h = refl
@@ -97,5 +94,3 @@ sum-next f i x r e h = rw (add-one, e, h)
 -- the loop's bound n is the length m that the definition names
 pub sum-done : (f : ℕ → ℕ) (i n m x : ℕ) → x ≡ sumTo f i → i ≤ n → n ≤ i → n ≡ m → x ≡ sumTo f m
 sum-done f i n m x e l h k = let j : i ≡ m = omega arith in e ∙ ap (sumTo f) j
-
-pub ruleset sum-laws = (sum-start, sum-next, sum-done)

@@ -1,15 +1,14 @@
 -- Admission: from a slice of numbers to the fresh session, or to the refusal of the table (docs/SPECIFICATION.md §5.1).
 -- Assumes nothing.
 use Prim.Native.Nat.{ℕ, _+_, _/_, _≤_, min}
-use mathlib.Core.Path.{_≡_, refl, sym, ap, _∙_}
+use mathlib.Core.Path.{_≡_, sym, ap, _∙_}
 use mathlib.Core.Bool.{cond}
 use mathlib.Core.List.{List}
-use native.Mathlib.Numerals.{add-one}
 use native.Mathlib.Omega.{arith}
 use lib.Dec.{eqb}
 use lib.ListN.{length, getD, set, replicate}
 use borrow.Author.Tests.{eq-eqb, ne-eqb}
-use Rattle.bounded.specs.Fold.{foldTo}
+use Rattle.bounded.specs.Fold.{foldTo, put-start, put-next}
 use Rattle.table.specs.declared.Numbers.{Numbers}
 use Rattle.table.specs.declared.Assessment.{Assessment}
 use Rattle.table.specs.Verdict.{Answer, answerOf}
@@ -50,12 +49,12 @@ pub record Admitted (l : List ℕ) (a : Admission) : Type 0 where
 -- ---- the code
 
 pub words-start : (l : List ℕ) → replicate 48 0 ≡ wordsTo l 0
-unfolding wordsTo foldTo
-words-start l = refl
+unfolding wordsTo
+words-start l = put-start (λ i. getD l i 0) (replicate 48 0)
 
 pub words-next : (l w : List ℕ) (i x : ℕ) → w ≡ wordsTo l i → x ≡ getD l i 0 → set w i x ≡ wordsTo l (i + 1)
-unfolding wordsTo foldTo
-words-next l w i x e f = rw (add-one, e, f)
+unfolding wordsTo
+words-next l w i x e f = put-next (λ i. getD l i 0) (replicate 48 0) w i x e f
 
 pub words-done : (l w : List ℕ) (i n : ℕ) → w ≡ wordsTo l i → i ≤ n → n ≤ i → n ≡ min (length l) 48 → w ≡ wordsTo l (min (length l) 48)
 words-done l w i n e a b k = let j : i ≡ min (length l) 48 = omega arith in e ∙ ap (wordsTo l) j

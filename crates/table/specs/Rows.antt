@@ -52,10 +52,6 @@ pub row-is : (l : List ℕ) (i a b c : ℕ) → a ≡ getD l (3 * i) 0 → b ≡
 unfolding tasksOf
 row-is l i a b c p q r = record { run = p; period = q; deadline = r }
 
-pub row-in : (l : List ℕ) (i : ℕ) → i < tasksOf l .rows → 3 * i + 2 < length l
-unfolding tasksOf
-row-in l i h = omega arith
-
 -- ---- the rule's cases, as the code tests them
 
 module _ (τ : TaskSet) (i : ℕ) (k : Task) (r : Row τ i k) where
