@@ -18,7 +18,7 @@ use Rattle.session.specs.Facts.{Waiting, Running, Choice, Facts, facts-of}
 waiting-sound : (s : Session) (i : ℕ) → Waiting s i → soundWaiting s i ≡ true
 unfolding soundWaiting
 waiting-sound s i w =
-    simp (le-leb _ _ (w .most), eq-eqb _ _ (w .deadline), lt-ltb _ _ (w .late)) (le-leb _ _ (w .budget))
+    simp (le-leb _ _ (w .most), eq-eqb _ _ (w .deadline), lt-ltb _ _ (w .notLate)) (le-leb _ _ (w .budget))
 
 running-sound : (s : Session) → (s .chosen ≡ idle) ⊎ Running s → runs s (s .chosen) (s .span) ≡ true
 unfolding runs

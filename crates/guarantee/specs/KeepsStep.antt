@@ -89,7 +89,7 @@ module _ (s : Session) (g : Good (rowsOf s) s) where
           next = λ i l. bounds i l .next;
           job = λ i l w.
               let f = as-formed safe i (in-table g i l) w in
-              record { some = f .some; most = f .most; deadline = f .deadline; late = f .ahead; budget = bounds i l .budget w };
+              record { some = f .some; most = f .most; deadline = f .deadline; notLate = f .ahead; budget = bounds i l .budget w };
           choice = choice;
         });
     safe = safe;

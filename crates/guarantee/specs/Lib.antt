@@ -17,3 +17,4 @@ pub mod TiesRow
 pub mod TiesJobs
 pub mod Ties
 pub mod Guarantee
+pub mod Exact

@@ -26,7 +26,8 @@ pickOf s l =
     cond (drawn s l) (candidateAt s (draw (getD l 0 0) (candidates s))) (cond (ltb (headOf s) (s .count)) (headOf s) idle)
 
 -- how long c may run at most: the lesser of its remaining ticks and the least budget of those that lose budget then.
--- Idle has no remaining ticks; with nothing waiting it gets 1,000,000, above every budget.
+-- Idle has no remaining ticks; with nothing waiting it gets 1,000,000, which is above every budget (`IdleRoom` in
+-- crates/guarantee/specs/Exact.antt).
 unfoldable pub room : Session → ℕ → ℕ
 room s c =
     foldTo (λ m j. cond (ahead s c j) (min m (jobAt s j .budget)) m) (cond (eqb c idle) horizon (jobAt s c .left)) (s .count)

@@ -20,7 +20,7 @@ pub record Waiting (s : Session) (i : ℕ) : Type 0 where
   pub some : 1 ≤ jobAt s i .left
   pub most : jobAt s i .left ≤ tasks s .C i
   pub deadline : jobAt s i .due + tasks s .T i ≡ jobAt s i .next + tasks s .D i
-  pub late : s .clock < jobAt s i .due
+  pub notLate : s .clock < jobAt s i .due
   pub budget : jobAt s i .budget ≤ startBudget (s .kind) (tasks s) i
 
 -- the chosen row, where idle is not chosen
@@ -55,7 +55,7 @@ waiting-of s i w e =
       some = ltb-true 0 (jobAt s i .left) w;
       most = leb-true _ _ (a .0);
       deadline = eqb-true _ _ (b .0);
-      late = ltb-true _ _ (c .0);
+      notLate = ltb-true _ _ (c .0);
       budget = leb-true _ _ (c .1);
     }
 

@@ -68,7 +68,7 @@ pub fn magnitude(v: i64) -> u64
     v as u64
 }
 
-// V of row i: D, less C, less what the others can take until the deadline.
+// V of row i: D, less C, less what the others can take until the deadline. Internal: `assess` tests the rows first.
 pub fn budget(words: &[u32], i: usize) -> i64
     requires { ⌜ Fit (tasksOf (now words)) × (i < tasksOf (now words) .rows) ⌝ }
     ensures { λ r. ⌜ r ≡ budgetOf (tasksOf (now (words .entry))) i ⌝ }
@@ -90,6 +90,7 @@ fn put(b: Budgets, i: usize, v: i64) -> Budgets
     next
 }
 
+// V of every row. Internal: `assess` tests the rows first, which keeps each sum from wrapping.
 pub fn all_budgets(words: &[u32]) -> Budgets
     requires { ⌜ Fit (tasksOf (now words)) ⌝ }
     ensures { λ r. ⌜ r ≡ budgetsOf (tasksOf (now (words .entry))) ⌝ }

@@ -12,7 +12,8 @@ pub struct Busy {
     pub sums: u64,
 }
 
-// The least r ≥ 1 that equals the sum over all rows of C times (r divided by T, rounded up).
+// The least r ≥ 1 that equals the sum over all rows of C times (r divided by T, rounded up). Internal: `assess` tests the
+// rows first.
 pub fn busy_length(words: &[u32]) -> Busy
     requires { ⌜ Fit (tasksOf (now words)) ⌝ }
     ensures { λ r. ⌜ Settled (tasksOf (now (words .entry))) r ⌝ }

@@ -19,6 +19,7 @@ fn jobs_by(deadline: u64, period: u64, t: u64) -> u64
     (t - deadline) / period + 1
 }
 
+// One row's part. Internal: its callers loop over rows that `assess` tested.
 pub fn row_demand(words: &[u32], i: usize, t: u64) -> u64
     requires { ⌜ Fit (tasksOf (now words)) × (i < tasksOf (now words) .rows) × (t ≤ 1000000) ⌝ }
     ensures { λ r. ⌜ Within 1000000000000 (rowDemand (tasksOf (now (words .entry))) t i) r ⌝ }
@@ -27,7 +28,8 @@ pub fn row_demand(words: &[u32], i: usize, t: u64) -> u64
     k.run * jobs_by(k.deadline, k.period, t)
 }
 
-// The sum, over the rows with D ≤ t, of C times ((t − D) divided by T, rounded down, plus 1).
+// The sum, over the rows with D ≤ t, of C times ((t − D) divided by T, rounded down, plus 1). Internal: `assess` tests the
+// rows first.
 pub fn demand_at(words: &[u32], t: u64) -> u64
     requires { ⌜ Fit (tasksOf (now words)) × (t ≤ 1000000) ⌝ }
     ensures { λ r. ⌜ Within 16000000000000 (demand (tasksOf (now (words .entry))) t) r ⌝ }

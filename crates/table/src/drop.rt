@@ -147,7 +147,8 @@ fn below(t: u64, h: u64) -> u64
     if h < t { h } else { t - 1 }
 }
 
-// Where the search goes on below t, whose demand is h: there, and after 32 sums at the bound if that is lower.
+// Where the search goes on below t, whose demand is h: there, and after 32 sums at the bound if that is lower. Internal:
+// `assess` tests the rows first.
 pub fn lower(words: &[u32], t: u64, h: u64, sums: u64) -> u64
     requires { ⌜ Fit (tasksOf (now words)) × (1 ≤ t) × (t ≤ 1000000) ⌝ }
     ensures { λ r. ⌜ Lower (tasksOf (now (words .entry))) t h r ⌝ }

@@ -106,6 +106,7 @@ fn leap_from(words: &[u32], r: u64) -> u64
 }
 
 // Where the iteration goes on after r, whose request is next: there, and after 32 sums at the bound if that is further.
+// Internal: `assess` tests the rows first.
 pub fn further(words: &[u32], r: u64, next: u64, sums: u64) -> u64
     requires { ⌜ Fit (tasksOf (now words)) × (r ≤ 1000000) ⌝ }
     ensures { λ x. ⌜ Further (tasksOf (now (words .entry))) r next x ⌝ }

@@ -13,7 +13,7 @@ pub struct Found {
     pub sums: u64,
 }
 
-// Looks at the ticks from 1 to end.
+// Looks at the ticks from 1 to end. Internal: `assess` tests the rows first.
 pub fn search(words: &[u32], end: u64) -> Found
     requires { ⌜ Fit (tasksOf (now words)) × (end ≤ 1000000) ⌝ }
     ensures { λ r. ⌜ Searched (tasksOf (now (words .entry))) end r ⌝ }

@@ -16,6 +16,7 @@ fn ceiling(a: u64, b: u64) -> u64
     (a + (b - 1)) / b
 }
 
+// One row's part. Internal: its callers loop over rows that `assess` tested.
 pub fn row_request(words: &[u32], i: usize, x: u64) -> u64
     requires { ⌜ Fit (tasksOf (now words)) × (i < tasksOf (now words) .rows) × (x ≤ 1000000) ⌝ }
     ensures { λ r. ⌜ Within 1000000000000 (rowRequest (tasksOf (now (words .entry))) x i) r ⌝ }
@@ -24,7 +25,7 @@ pub fn row_request(words: &[u32], i: usize, x: u64) -> u64
     k.run * ceiling(x, k.period)
 }
 
-// The sum over all rows of C times (x divided by T, rounded up).
+// The sum over all rows of C times (x divided by T, rounded up). Internal: `assess` tests the rows first.
 pub fn requested(words: &[u32], x: u64) -> u64
     requires { ⌜ Fit (tasksOf (now words)) × (x ≤ 1000000) ⌝ }
     ensures { λ r. ⌜ Within 16000000000000 (request (tasksOf (now (words .entry))) x) r ⌝ }

@@ -75,7 +75,7 @@ pub fn first_broken(words: &[u32]) -> usize
     n
 }
 
-// Row i of a table whose rows keep their rule, which bounds its numbers.
+// Row i of a table whose rows keep their rule, which bounds its numbers. Internal: its callers have tested that.
 pub fn fit_row(words: &[u32], i: usize) -> Task
     requires { ⌜ Fit (tasksOf (now words)) × (i < tasksOf (now words) .rows) ⌝ }
     ensures { λ r. ⌜ FitRow (tasksOf (now (words .entry))) i r ⌝ }

@@ -1,0 +1,467 @@
+-- Which candidate each number of a draw names, and how long the chosen one may run (docs/SPECIFICATION.md §5.4). Assumes nothing.
+use Prim.Native.Nat.{ℕ, zero, suc, _+_, _-_, _*_, _/_, _%_, min, _≤_, _<_}
+use mathlib.Core.Path.{_≡_, refl, sym, ap, _∙_}
+use mathlib.Core.Bool.{Bool, true, false, not, _&&_, cond, true≢false}
+use mathlib.Core.List.{List}
+use mathlib.Core.Logic.{dite, _⊎_, inl, inr, ⊎-elim}
+use native.Mathlib.Nat.{mod-lt, lt-div-mul-add}
+use native.Mathlib.Omega.{arith}
+use native.Mathlib.Decide.{decLt, ℕ-discrete}
+use lib.Dec.{leb, ltb, eqb}
+use lib.IntN.{subℕ}
+use lib.ListN.{length, getD, List·getD-eq-default}
+use borrow.Author.Tests.{ltb-true, leb-true, eqb-true, lt-ltb, le-ltb, eq-eqb, ne-eqb}
+use Rattle.bounded.specs.Tests.{both, and-true, and-both, or-true, gate, gate-on, gate-off, gate-le}
+use Rattle.bounded.specs.Sum.{sumTo, sum-le, sum-add, sum-const, sum-zero, sum-le-at, sum-lt}
+use Rattle.bounded.specs.All.{all-at}
+use Rattle.bounded.specs.Least.{least-high, least-at, least-before}
+use Rattle.bounded.specs.Fold.{foldTo}
+use Rattle.bounded.specs.Signed.{difference-sub}
+use Rattle.edf.specs.Demand.{TaskSet, interference}
+use Rattle.table.specs.Rows.{horizon, tasksOf, Fit}
+use Rattle.table.specs.Budgets.{budgetOf}
+use Rattle.session.specs.declared.Session.{Session}
+use Rattle.session.specs.Reading.{idle, jobAt, rowsOf, tasks, waits, ahead, natural, startBy, startBudget}
+use Rattle.session.specs.Order.{before, isHead, headOf, permits, candidate, candidates, position, rowWith, candidateAt}
+use Rattle.session.specs.First.{is-head, head-waits}
+use Rattle.session.specs.Choose.{draw, drawn, pickOf, room}
+use Rattle.session.specs.Facts.{Facts, facts-fit}
+use Rattle.guarantee.specs.KeepsSound.{ahead-waits, idle-ahead}
+use Rattle.guarantee.specs.KeepsOrder.{May, pick-may}
+
+-- ---- the statements: the candidates' numbers
+
+-- how many rows are candidates
+abbrev pub candidateRows : Session → ℕ
+candidateRows s = sumTo (λ i. gate (candidate s i) 1) (s .count)
+
+-- c is candidate number k, from 0: a row with k candidates before it in the order of jobs, or idle, which comes after
+-- all the rows (§5.4, Draw)
+pub data Numbered (s : Session) (k : ℕ) : ℕ → Type 0 where
+  row : (r : ℕ) → r < s .count → candidate s r ≡ true → position s r ≡ k → Numbered s k r
+  last : permits s idle ≡ true → k ≡ candidateRows s → Numbered s k idle
+
+-- the candidates, n in all, are numbered 0 to n - 1
+pub record Numbering (s : Session) : Type 0 where
+  -- a row has a lower number than each row that it is before
+  pub ordered : (i j : ℕ) → i < s .count → candidate s i ≡ true → before s i j ≡ true → position s i < position s j
+  -- the rows' numbers are below how many they are
+  pub below : (i : ℕ) → i < s .count → candidate s i ≡ true → position s i < candidateRows s
+  -- no two rows have the same number
+  pub apart : (i j : ℕ) → i < s .count → j < s .count → candidate s i ≡ true → candidate s j ≡ true
+      → position s i ≡ position s j → i ≡ j
+  -- a row is found for each number below how many they are, and for no other
+  pub found : (k : ℕ) → k < candidateRows s → rowWith s k < s .count
+  pub none : (k : ℕ) → candidateRows s ≤ k → rowWith s k ≡ s .count
+  -- so each k below n is a candidate's number, and `candidateAt` gives that candidate
+  pub each : (k : ℕ) → k < candidates s → Numbered s k (candidateAt s k)
+  -- no other k is one, and no two candidates have the same
+  pub most : {k c : ℕ} → Numbered s k c → k < candidates s
+  pub one : {k c d : ℕ} → Numbered s k c → Numbered s k d → c ≡ d
+  -- the head, if a job is waiting, has number 0
+  pub head : headOf s < s .count → Numbered s 0 (headOf s)
+
+-- where a first word w decides between n candidates, number w mod n is chosen (§5.4, Draw)
+abbrev pub Drawn : Session → List ℕ → Type 0
+Drawn s l = drawn s l ≡ true → Numbered s (getD l 0 0 % candidates s) (pickOf s l)
+
+-- ---- the statements: how long the chosen one may run
+
+-- x is the lesser of a and the least budget of those of the first n jobs that lose budget while c runs
+pub record Lesser (s : Session) (c a n x : ℕ) : Type 0 where
+  pub most : x ≤ a
+  pub each : (j : ℕ) → j < n → ahead s c j ≡ true → x ≤ jobAt s j .budget
+  pub one : (x ≡ a) ⊎ ((j : ℕ) × (j < n) × (ahead s c j ≡ true) × (x ≡ jobAt s j .budget))
+
+-- a job's room is the lesser of its remaining ticks and the least budget of the waiting jobs of strictly earlier deadline
+-- (§5.4, Span)
+abbrev pub RowRoom : Session → ℕ → Type 0
+RowRoom s c = Lesser s c (jobAt s c .left) (s .count) (room s c)
+
+-- idle's room is the least budget of the waiting jobs: the 1,000,000 that `room` begins with is above each (§5.4, Span)
+pub record IdleRoom (s : Session) : Type 0 where
+  pub small : (i : ℕ) → i < s .count → waits s i ≡ true → jobAt s i .budget < horizon
+  pub each : (i : ℕ) → i < s .count → waits s i ≡ true → room s idle ≤ jobAt s i .budget
+  pub one : (i : ℕ) × (i < s .count) × (waits s i ≡ true) × (room s idle ≡ jobAt s i .budget)
+
+-- a word is divided by 2 at least where it decides between candidates, and by 1 at least where it decides the span
+pub record Divisors (s : Session) (l : List ℕ) : Type 0 where
+  pub pick : drawn s l ≡ true → 2 ≤ candidates s
+  pub span : 1 ≤ room s (pickOf s l)
+
+-- ---- sums of tests
+
+gate-so : (a b : Bool) → (a ≡ true → b ≡ true) → gate a 1 ≤ gate b 1
+gate-so a b h =
+    both a (λ e. omega (arith, gate-le a 1, gate-on b 1 (h e))) (λ e. omega (arith, gate-off a 1 e))
+
+gate-some : (a : Bool) → 0 < gate a 1 → a ≡ true
+gate-some a h = both a (λ e. e) (λ e. absurd (omega (arith, gate-off a 1 e)))
+
+-- at most one index passes
+sum-one : (p : ℕ → Bool) (n : ℕ) → ((i j : ℕ) → i < n → j < n → p i ≡ true → p j ≡ true → i ≡ j)
+    → sumTo (λ i. gate (p i) 1) n ≤ 1
+unfolding sumTo
+sum-one p zero h = omega arith
+sum-one p (suc n) h =
+    both (p n)
+    (λ e. omega (
+      arith,
+      gate-le (p n) 1,
+      sum-zero (λ i. gate (p i) 1) n
+          (λ i l. gate-off (p i) 1 (both (p i) (λ t. absurd (omega (arith, h i n (omega arith) (omega arith) t e))) (λ t. t))),
+    ))
+    (λ e.
+    let ih = sum-one p n (λ i j k l. h i j (omega arith) (omega arith)) in
+    omega (arith, gate-off (p n) 1 e))
+
+-- ---- m indices, or more, pass a test; if each has a number below m and no two have the same, every number below m is one
+-- of theirs
+
+-- 1 where i passes c and its number f i is below k
+abbrev lower : (ℕ → Bool) → (ℕ → ℕ) → ℕ → ℕ → ℕ
+lower c f k i = gate (c i && ltb (f i) k) 1
+
+-- 1 where i passes c and its number is k
+abbrev exact : (ℕ → Bool) → (ℕ → ℕ) → ℕ → ℕ → ℕ
+exact c f k i = gate (c i && eqb (f i) k) 1
+
+module _ (c : ℕ → Bool) (f : ℕ → ℕ) (n : ℕ) where
+  -- a number below k + 1 is below k, or it is k
+  lower-next : (k i : ℕ) → lower c f (suc k) i ≤ lower c f k i + exact c f k i
+  lower-next k i =
+      both (c i)
+      (λ e. simp e
+      (dite (ℕ-discrete (f i) k)
+      (λ q. simp (eq-eqb (f i) k q) (omega (arith, gate-le (ltb (f i) (suc k)) 1, gate-on true 1 refl)))
+      (λ q.
+      let h = gate-so (ltb (f i) (suc k)) (ltb (f i) k) (λ t. lt-ltb (f i) k (omega (arith, ltb-true (f i) (suc k) t))) in
+      omega arith)))
+      (λ e. simp e (omega (arith, gate-off false 1 refl)))
+
+  -- how many have a number below k: at most those with 0, 1, .., k - 1 together
+  lower-sum : (k : ℕ) → sumTo (lower c f k) n ≤ sumTo (λ x. sumTo (exact c f x) n) k
+  unfolding sumTo
+  lower-sum zero =
+      omega (
+        arith,
+        sum-zero (lower c f 0) n
+            (λ i l. gate-off (c i && ltb (f i) 0) 1
+            (both (c i) (λ e. simp e (le-ltb (f i) 0 (omega arith))) (λ e. simp e))),
+      )
+  lower-sum (suc k) =
+      let ih = lower-sum k in
+      omega (
+        arith,
+        sum-le (lower c f (suc k)) (λ i. lower c f k i + exact c f k i) n (λ i l. lower-next k i),
+        sum-add (lower c f k) (exact c f k) n,
+      )
+
+  module _ (m : ℕ) (many : m ≤ sumTo (λ i. gate (c i) 1) n)
+      (below : (i : ℕ) → i < n → c i ≡ true → f i < m)
+      (apart : (i j : ℕ) → i < n → j < n → c i ≡ true → c j ≡ true → f i ≡ f j → i ≡ j) where
+    -- all have a number below m,
+    all-lower : m ≤ sumTo (λ x. sumTo (exact c f x) n) m
+    all-lower =
+        omega (
+          arith,
+          sum-le (λ i. gate (c i) 1) (lower c f m) n
+              (λ i l. gate-so (c i) (c i && ltb (f i) m) (λ e. and-both (c i) _ e (lt-ltb (f i) m (below i l e)))),
+          lower-sum m,
+        )
+
+    -- at most one has the number k,
+    exact-one : (k : ℕ) → sumTo (exact c f k) n ≤ 1
+    exact-one k =
+        sum-one (λ i. c i && eqb (f i) k) n
+        (λ i j u v a b.
+        let x = and-true (c i) _ a in
+        let y = and-true (c j) _ b in
+        apart i j u v (x .0) (y .0) (eqb-true (f i) k (x .1) ∙ sym (eqb-true (f j) k (y .1))))
+
+    -- so one has it, or the others could not make m
+    exact-some : (k : ℕ) → k < m → 0 < sumTo (exact c f k) n
+    exact-some k h =
+        omega (
+          arith,
+          all-lower,
+          sum-le-at (λ x. sumTo (exact c f x) n) (λ x. 1) m k h (λ x l ne. exact-one x),
+          sum-const 1 m,
+        )
+
+    taken : (k : ℕ) → k < m → (i : ℕ) × (i < n) × ((c i && eqb (f i) k) ≡ true)
+    taken k h =
+        let z = sum-zero (λ i. 0) n (λ i l. refl) in
+        let r = sum-lt (λ i. 0) (exact c f k) n (omega (arith, exact-some k h)) in
+        (r .0, r .1, gate-some _ (r .2))
+
+-- ---- `before` is a strict order of all rows
+
+-- what its test says
+abbrev Before : Session → ℕ → ℕ → Type 0
+Before s i j = (jobAt s i .due < jobAt s j .due) ⊎ ((jobAt s i .due ≡ jobAt s j .due) × (i < j))
+
+module _ (s : Session) where
+  before-then : (i j : ℕ) → before s i j ≡ true → Before s i j
+  unfolding before
+  before-then i j e =
+      ⊎-elim (λ a. inl (ltb-true (jobAt s i .due) (jobAt s j .due) a))
+      (λ b.
+      let c = and-true (eqb (jobAt s i .due) (jobAt s j .due)) (ltb i j) b in
+      inr (eqb-true (jobAt s i .due) (jobAt s j .due) (c .0), ltb-true i j (c .1)))
+      (or-true (ltb (jobAt s i .due) (jobAt s j .due)) _ e)
+
+  then-before : (i j : ℕ) → Before s i j → before s i j ≡ true
+  unfolding before
+  then-before i j (inl a) = simp (lt-ltb (jobAt s i .due) (jobAt s j .due) a)
+  then-before i j (inr b) =
+      simp (le-ltb (jobAt s i .due) (jobAt s j .due) (omega arith), eq-eqb (jobAt s i .due) (jobAt s j .due) (b .0), lt-ltb i j (b .1))
+
+  before-self : (i : ℕ) → before s i i ≡ false
+  before-self i = both (before s i i) (λ e. absurd (⊎-elim (λ a. omega arith) (λ b. omega arith) (before-then i i e))) (λ e. e)
+
+  before-trans : (i j k : ℕ) → before s i j ≡ true → before s j k ≡ true → before s i k ≡ true
+  before-trans i j k a b = then-before i k (by (before-then i j a) (before-then j k b))
+    where
+      by : Before s i j → Before s j k → Before s i k
+      by (inl p) (inl q) = inl (omega arith)
+      by (inl p) (inr q) = inl (omega arith)
+      by (inr p) (inl q) = inl (omega arith)
+      by (inr p) (inr q) = inr (omega arith, omega arith)
+
+  before-or : (i j : ℕ) → ¬ (i ≡ j) → before s i j ≡ false → before s j i ≡ true
+  before-or i j ne e =
+      dite (decLt (jobAt s i .due) (jobAt s j .due)) (λ a. no (inl a))
+      (λ a. dite (decLt (jobAt s j .due) (jobAt s i .due)) (λ b. then-before j i (inl b))
+      (λ b. dite (decLt i j) (λ c. no (inr (omega arith, c))) (λ c. then-before j i (inr (omega arith, omega arith)))))
+    where
+      no : Before s i j → before s j i ≡ true
+      no b = absurd (true≢false (sym (then-before i j b) ∙ e))
+
+  -- ---- the numbers
+
+  -- what is before i is before j too, and i itself is before j only
+  candidate-lower : (i j : ℕ) → i < s .count → candidate s i ≡ true → before s i j ≡ true → position s i < position s j
+  unfolding position
+  candidate-lower i j l c b =
+      omega (
+        arith,
+        sum-le-at (λ t. gate (candidate s t && before s t i) 1) (λ t. gate (candidate s t && before s t j) 1) (s .count) i l
+            (λ t u ne. gate-so (candidate s t && before s t i) (candidate s t && before s t j)
+            (λ e.
+            let a = and-true (candidate s t) _ e in
+            and-both (candidate s t) _ (a .0) (before-trans t i j (a .1) b))),
+        gate-on (candidate s i && before s i j) 1 (and-both (candidate s i) _ c b),
+        gate-off (candidate s i && before s i i) 1 (simp (c, before-self i)),
+      )
+
+  -- i itself is a candidate, and not before i
+  candidate-below : (i : ℕ) → i < s .count → candidate s i ≡ true → position s i < candidateRows s
+  unfolding position
+  candidate-below i l c =
+      omega (
+        arith,
+        sum-le-at (λ t. gate (candidate s t && before s t i) 1) (λ t. gate (candidate s t) 1) (s .count) i l
+            (λ t u ne. gate-so (candidate s t && before s t i) (candidate s t) (λ e. and-true (candidate s t) _ e .0)),
+        gate-on (candidate s i) 1 c,
+        gate-off (candidate s i && before s i i) 1 (simp (c, before-self i)),
+      )
+
+  candidate-apart : (i j : ℕ) → i < s .count → j < s .count → candidate s i ≡ true → candidate s j ≡ true
+      → position s i ≡ position s j → i ≡ j
+  candidate-apart i j u v a b e =
+      dite (ℕ-discrete i j) (λ q. q)
+      (λ ne. both (before s i j)
+      (λ q. absurd (omega (arith, candidate-lower i j u a q)))
+      (λ q. absurd (omega (arith, candidate-lower j i v b (before-or i j ne q)))))
+
+  -- the row found is a candidate, and has the number
+  row-with : (k : ℕ) → rowWith s k < s .count → (candidate s (rowWith s k) ≡ true) × (position s (rowWith s k) ≡ k)
+  unfolding rowWith
+  row-with k l =
+      let e = and-true (candidate s (rowWith s k)) _ (least-at (λ i. candidate s i && eqb (position s i) k) 0 (s .count) (omega arith)) in
+      (e .0, eqb-true (position s (rowWith s k)) k (e .1))
+
+  row-found : (k : ℕ) → k < candidateRows s → rowWith s k < s .count
+  unfolding rowWith
+  row-found k h =
+      let t = taken (candidate s) (position s) (s .count) (candidateRows s) (omega arith) candidate-below candidate-apart k h in
+      dite (decLt (rowWith s k) (s .count)) (λ l. l)
+      (λ l. absurd
+      (true≢false
+      (sym (t .2) ∙ least-before (λ i. candidate s i && eqb (position s i) k) 0 (s .count) (t .0) (omega arith) (omega (arith, t .1)))))
+
+  row-none : (k : ℕ) → candidateRows s ≤ k → rowWith s k ≡ s .count
+  unfolding rowWith
+  row-none k h =
+      dite (decLt (rowWith s k) (s .count))
+      (λ l.
+      let r = row-with k l in
+      absurd (omega (arith, r .1, candidate-below (rowWith s k) l (r .0))))
+      (λ l. omega (arith, least-high (λ i. candidate s i && eqb (position s i) k) 0 (s .count)))
+
+  -- a row where k is below how many they are; otherwise k is just that, and idle is a candidate
+  candidate-each : (k : ℕ) → k < candidates s → Numbered s k (candidateAt s k)
+  unfolding candidates candidateAt
+  candidate-each k h =
+      dite (decLt k (candidateRows s))
+      (λ l.
+      let r = row-found k l in
+      let w = row-with k r in
+      simp (lt-ltb (rowWith s k) (s .count) r) (row (rowWith s k) r (w .0) (w .1)))
+      (λ l.
+      let p : permits s idle ≡ true = gate-some (permits s idle) (omega arith) in
+      simp (le-ltb (rowWith s k) (s .count) (omega (arith, row-none k (omega arith))), p)
+      (last p (omega (arith, gate-le (permits s idle) 1))))
+
+  candidate-most : {k c : ℕ} → Numbered s k c → k < candidates s
+  unfolding candidates
+  candidate-most (row r l c p) = omega (arith, candidate-below r l c)
+  candidate-most (last p e) = omega (arith, gate-on (permits s idle) 1 p)
+
+  candidate-one : {k c d : ℕ} → Numbered s k c → Numbered s k d → c ≡ d
+  candidate-one (row i u a p) (row j v b q) = candidate-apart i j u v a b (p ∙ sym q)
+  candidate-one (row i u a p) (last b e) = absurd (omega (arith, candidate-below i u a))
+  candidate-one (last b e) (row i u a p) = absurd (omega (arith, candidate-below i u a))
+  candidate-one (last a e) (last b f) = refl
+
+  -- every candidate waits, so none is before the head
+  before-head : headOf s < s .count → (j : ℕ) → j < s .count → (candidate s j && before s j (headOf s)) ≡ false
+  unfolding isHead candidate
+  before-head h j u =
+      let a = and-true (waits s (headOf s)) _ (is-head s h) .1 in
+      let b : not (waits s j && before s j (headOf s)) ≡ true = all-at (λ j. not (waits s j && before s j (headOf s))) (s .count) a j u in
+      both (candidate s j && before s j (headOf s))
+      (λ e.
+      let c = and-true (candidate s j) _ e in
+      let w = and-true (waits s j) _ (c .0) .0 in
+      absurd (true≢false (sym b ∙ simp (w, c .1))))
+      (λ e. e)
+
+  candidate-head : headOf s < s .count → Numbered s 0 (headOf s)
+  unfolding candidate position
+  candidate-head h =
+      row (headOf s) h (simp (head-waits s h, eq-eqb (headOf s) (headOf s) refl))
+      (sum-zero (λ j. gate (candidate s j && before s j (headOf s)) 1) (s .count) (λ j u. gate-off _ 1 (before-head h j u)))
+
+pub numbering : (s : Session) → Numbering s
+numbering s = record {
+  ordered = candidate-lower s;
+  below = candidate-below s;
+  apart = candidate-apart s;
+  found = row-found s;
+  none = row-none s;
+  each = candidate-each s;
+  most = candidate-most s;
+  one = candidate-one s;
+  head = candidate-head s;
+}
+
+-- ---- the draw
+
+pub drawn-two : (s : Session) (l : List ℕ) → drawn s l ≡ true → 2 ≤ candidates s
+unfolding drawn
+drawn-two s l e =
+    leb-true 2 (candidates s) (and-true (leb 2 (candidates s)) _ (and-true (ltb (headOf s) (s .count)) _ e .1) .0)
+
+pub drawn-number : (s : Session) (l : List ℕ) → Drawn s l
+unfolding pickOf draw
+drawn-number s l e =
+    simp e (numbering s .each (getD l 0 0 % candidates s) (mod-lt (getD l 0 0) {m = candidates s} (omega (arith, drawn-two s l e))))
+
+-- ---- how long c may run
+
+-- one job more
+lesser-next : (s : Session) (c a n x : ℕ) → Lesser s c a n x → Lesser s c a (suc n) (cond (ahead s c n) (min x (jobAt s n .budget)) x)
+lesser-next s c a n x r =
+    both (ahead s c n)
+    (λ e. simp e
+    (record {
+      most = omega (arith, r .most);
+      each = λ j l b. dite (ℕ-discrete j n) (λ q. rw q (omega arith)) (λ ne. omega (arith, r .each j (omega arith) b));
+      one = dite (decLt (jobAt s n .budget) x) (λ l. inr (n, omega arith, e, omega arith))
+          (λ l. let m : min x (jobAt s n .budget) ≡ x = omega arith in rw m one-more);
+    }))
+    (λ e. simp e
+    (record {
+      most = r .most;
+      each = λ j l b. dite (ℕ-discrete j n)
+          (λ q. let d : ahead s c n ≡ true = rw q at b in absurd (true≢false (sym d ∙ e)))
+          (λ ne. r .each j (omega arith) b);
+      one = one-more;
+    }))
+  where
+    one-more : (x ≡ a) ⊎ ((j : ℕ) × (j < suc n) × (ahead s c j ≡ true) × (x ≡ jobAt s j .budget))
+    one-more = ⊎-elim (λ e. inl e) (λ t. inr (t .0, omega (arith, t .1), t .2, t .3)) (r .one)
+
+lesser-to : (s : Session) (c a n : ℕ) → Lesser s c a n (foldTo (λ m j. cond (ahead s c j) (min m (jobAt s j .budget)) m) a n)
+unfolding foldTo
+lesser-to s c a zero = record { most = omega arith; each = λ j l. absurd (omega arith); one = inl refl }
+lesser-to s c a (suc n) = lesser-next s c a n _ (lesser-to s c a n)
+
+pub row-room : (s : Session) (c : ℕ) → ¬ (c ≡ idle) → RowRoom s c
+unfolding room
+row-room s c ne = simp (ne-eqb c idle ne) (lesser-to s c (jobAt s c .left) (s .count))
+
+idle-lesser : (s : Session) → Lesser s idle horizon (s .count) (room s idle)
+unfolding room
+idle-lesser s = lesser-to s idle horizon (s .count)
+
+-- ---- a waiting job's budget is below 1,000,000
+
+natural-le : (a b : ℕ) → natural (subℕ a b) ≤ a - b
+natural-le a b = both (ltb a b) (λ e. simp e (omega arith)) (λ e. simp e (omega arith))
+
+-- a starting budget is at most D - C
+start-le : (kind : ℕ) (τ : TaskSet) (i : ℕ) → startBudget kind τ i ≤ τ .D i - τ .C i
+unfolding startBudget startBy budgetOf
+start-le kind τ i =
+    both (eqb kind 1)
+    (λ e. simp e (omega (
+      arith,
+      natural-le (τ .D i) (τ .C i + interference τ i (τ .D i)),
+      ap natural (difference-sub (τ .D i) (τ .C i) (interference τ i (τ .D i))),
+    )))
+    (λ e. simp e (omega arith))
+
+-- D is at most 1,000,000; past the table's rows it is read as 0
+deadline-le : (l : List ℕ) → Fit (tasksOf l) → (i : ℕ) → tasksOf l .D i ≤ horizon
+unfolding tasksOf
+deadline-le l fit i =
+    dite (decLt i (length l / 3)) (λ h. omega (arith, fit .row i h))
+    (λ h. rw (List·getD-eq-default l 0 {n = 3 * i + 2} (omega (arith, lt-div-mul-add {a = length l} {b = 3} (omega arith)))) (omega arith))
+
+waiting-small : (s : Session) → Facts s → (i : ℕ) → i < s .count → waits s i ≡ true → jobAt s i .budget < horizon
+waiting-small s f i l w =
+    omega (arith, f .job i l w, start-le (s .kind) (tasks s) i, deadline-le (rowsOf s) (facts-fit s f) i)
+
+pub idle-room : (s : Session) → Facts s → (j : ℕ) → j < s .count → waits s j ≡ true → IdleRoom s
+idle-room s f j l w =
+    let r = idle-lesser s in
+    let le = r .each j l (idle-ahead s idle j refl w) in
+    record {
+      small = waiting-small s f;
+      each = λ i u v. r .each i u (idle-ahead s idle i refl v);
+      one = ⊎-elim (λ e. absurd (omega (arith, waiting-small s f j l w)))
+          (λ t. (t .0, t .1, ahead-waits s idle (t .0) (t .2), t .3)) (r .one);
+    }
+
+-- ---- no word is divided by 0
+
+lesser-some : (s : Session) (c a n x : ℕ) → Lesser s c a n x → 1 ≤ a
+    → ((j : ℕ) → j < n → ahead s c j ≡ true → 1 ≤ jobAt s j .budget) → 1 ≤ x
+lesser-some s c a n x r h k =
+    ⊎-elim (λ e. omega arith) (λ t. omega (arith, t .3, k (t .0) (t .1) (t .2))) (r .one)
+
+may-room : (s : Session) → s .count ≤ 16 → (c : ℕ) → May s c 1 → 1 ≤ room s c
+unfolding ahead waits
+may-room s few c may =
+    ⊎-elim
+    (λ e. rw e (lesser-some s idle horizon (s .count) (room s idle) (idle-lesser s) (omega arith) (rw e at (may .affords))))
+    (λ r. lesser-some s c (jobAt s c .left) (s .count) (room s c) (row-room s c (λ e. omega (arith, r .known)))
+    (omega (arith, r .within)) (may .affords))
+    (may .runs)
+
+pub divisors : (s : Session) → Facts s → (l : List ℕ) → Divisors s l
+divisors s f l =
+    record { pick = drawn-two s l; span = may-room s (f .few) (pickOf s l) (pick-may s (f .few) l) }
