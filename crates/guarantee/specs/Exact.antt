@@ -1,7 +1,7 @@
 -- Which candidate each number of a draw names, and how long the chosen one may run (docs/SPECIFICATION.md §5.4). Assumes nothing.
-use Prim.Native.Nat.{ℕ, zero, suc, _+_, _-_, _*_, _/_, _%_, min, _≤_, _<_}
+use Prim.Native.Nat.{ℕ, zero, suc, _+_, _-_, _*_, _/_, _%_, _≤_, _<_}
 use mathlib.Core.Path.{_≡_, refl, sym, ap, _∙_}
-use mathlib.Core.Bool.{Bool, true, false, not, _&&_, cond, true≢false}
+use mathlib.Core.Bool.{Bool, true, false, not, _&&_, true≢false}
 use mathlib.Core.List.{List}
 use mathlib.Core.Logic.{dite, _⊎_, inl, inr, ⊎-elim}
 use native.Mathlib.Nat.{mod-lt, lt-div-mul-add}
@@ -15,19 +15,19 @@ use Rattle.bounded.specs.Tests.{both, and-true, and-both, or-true, gate, gate-o
 use Rattle.bounded.specs.Sum.{sumTo, sum-le, sum-add, sum-const, sum-zero, sum-le-at, sum-lt}
 use Rattle.bounded.specs.All.{all-at}
 use Rattle.bounded.specs.Least.{least-high, least-at, least-before}
-use Rattle.bounded.specs.Fold.{foldTo}
 use Rattle.bounded.specs.Signed.{difference-sub}
 use Rattle.edf.specs.Demand.{TaskSet, interference}
 use Rattle.table.specs.Rows.{horizon, tasksOf, Fit}
 use Rattle.table.specs.Budgets.{budgetOf}
 use Rattle.session.specs.declared.Session.{Session}
-use Rattle.session.specs.Reading.{idle, jobAt, rowsOf, tasks, waits, ahead, natural, startBy, startBudget}
+use Rattle.session.specs.Reading.{idle, jobAt, rowsOf, tasks, waits, natural, startBy, startBudget}
 use Rattle.session.specs.Order.{before, isHead, headOf, permits, candidate, candidates, position, rowWith, candidateAt}
 use Rattle.session.specs.First.{is-head, head-waits}
 use Rattle.session.specs.Choose.{draw, drawn, pickOf, room}
 use Rattle.session.specs.Facts.{Facts, facts-fit}
 use Rattle.guarantee.specs.KeepsSound.{ahead-waits, idle-ahead}
-use Rattle.guarantee.specs.KeepsOrder.{May, pick-may}
+use Rattle.guarantee.specs.KeepsPick.{pick-may}
+use Rattle.guarantee.specs.Room.{Lesser, room-lesser, may-room}
 
 -- ---- the statements: the candidates' numbers
 
@@ -66,12 +66,6 @@ abbrev pub Drawn : Session → List ℕ → Type 0
 Drawn s l = drawn s l ≡ true → Numbered s (getD l 0 0 % candidates s) (pickOf s l)
 
 -- ---- the statements: how long the chosen one may run
-
--- x is the lesser of a and the least budget of those of the first n jobs that lose budget while c runs
-pub record Lesser (s : Session) (c a n x : ℕ) : Type 0 where
-  pub most : x ≤ a
-  pub each : (j : ℕ) → j < n → ahead s c j ≡ true → x ≤ jobAt s j .budget
-  pub one : (x ≡ a) ⊎ ((j : ℕ) × (j < n) × (ahead s c j ≡ true) × (x ≡ jobAt s j .budget))
 
 -- a job's room is the lesser of its remaining ticks and the least budget of the waiting jobs of strictly earlier deadline
 -- (§5.4, Span)
@@ -371,41 +365,8 @@ drawn-number s l e =
 
 -- ---- how long c may run
 
--- one job more
-lesser-next : (s : Session) (c a n x : ℕ) → Lesser s c a n x → Lesser s c a (suc n) (cond (ahead s c n) (min x (jobAt s n .budget)) x)
-lesser-next s c a n x r =
-    both (ahead s c n)
-    (λ e. simp e
-    (record {
-      most = omega (arith, r .most);
-      each = λ j l b. dite (ℕ-discrete j n) (λ q. rw q (omega arith)) (λ ne. omega (arith, r .each j (omega arith) b));
-      one = dite (decLt (jobAt s n .budget) x) (λ l. inr (n, omega arith, e, omega arith))
-          (λ l. let m : min x (jobAt s n .budget) ≡ x = omega arith in rw m one-more);
-    }))
-    (λ e. simp e
-    (record {
-      most = r .most;
-      each = λ j l b. dite (ℕ-discrete j n)
-          (λ q. let d : ahead s c n ≡ true = rw q at b in absurd (true≢false (sym d ∙ e)))
-          (λ ne. r .each j (omega arith) b);
-      one = one-more;
-    }))
-  where
-    one-more : (x ≡ a) ⊎ ((j : ℕ) × (j < suc n) × (ahead s c j ≡ true) × (x ≡ jobAt s j .budget))
-    one-more = ⊎-elim (λ e. inl e) (λ t. inr (t .0, omega (arith, t .1), t .2, t .3)) (r .one)
-
-lesser-to : (s : Session) (c a n : ℕ) → Lesser s c a n (foldTo (λ m j. cond (ahead s c j) (min m (jobAt s j .budget)) m) a n)
-unfolding foldTo
-lesser-to s c a zero = record { most = omega arith; each = λ j l. absurd (omega arith); one = inl refl }
-lesser-to s c a (suc n) = lesser-next s c a n _ (lesser-to s c a n)
-
 pub row-room : (s : Session) (c : ℕ) → ¬ (c ≡ idle) → RowRoom s c
-unfolding room
-row-room s c ne = simp (ne-eqb c idle ne) (lesser-to s c (jobAt s c .left) (s .count))
-
-idle-lesser : (s : Session) → Lesser s idle horizon (s .count) (room s idle)
-unfolding room
-idle-lesser s = lesser-to s idle horizon (s .count)
+row-room s c ne = simp (ne-eqb c idle ne) at (room-lesser s c)
 
 -- ---- a waiting job's budget is below 1,000,000
 
@@ -437,7 +398,7 @@ waiting-small s f i l w =
 
 pub idle-room : (s : Session) → Facts s → (j : ℕ) → j < s .count → waits s j ≡ true → IdleRoom s
 idle-room s f j l w =
-    let r = idle-lesser s in
+    let r = room-lesser s idle in
     let le = r .each j l (idle-ahead s idle j refl w) in
     record {
       small = waiting-small s f;
@@ -447,20 +408,6 @@ idle-room s f j l w =
     }
 
 -- ---- no word is divided by 0
-
-lesser-some : (s : Session) (c a n x : ℕ) → Lesser s c a n x → 1 ≤ a
-    → ((j : ℕ) → j < n → ahead s c j ≡ true → 1 ≤ jobAt s j .budget) → 1 ≤ x
-lesser-some s c a n x r h k =
-    ⊎-elim (λ e. omega arith) (λ t. omega (arith, t .3, k (t .0) (t .1) (t .2))) (r .one)
-
-may-room : (s : Session) → s .count ≤ 16 → (c : ℕ) → May s c 1 → 1 ≤ room s c
-unfolding ahead waits
-may-room s few c may =
-    ⊎-elim
-    (λ e. rw e (lesser-some s idle horizon (s .count) (room s idle) (idle-lesser s) (omega arith) (rw e at (may .affords))))
-    (λ r. lesser-some s c (jobAt s c .left) (s .count) (room s c) (row-room s c (λ e. omega (arith, r .known)))
-    (omega (arith, r .within)) (may .affords))
-    (may .runs)
 
 pub divisors : (s : Session) → Facts s → (l : List ℕ) → Divisors s l
 divisors s f l =

@@ -9,7 +9,8 @@ pub mod KeepsArrive
 pub mod KeepsFinish
 pub mod KeepsAged
 pub mod KeepsAdvance
-pub mod KeepsOrder
+pub mod KeepsPick
+pub mod Room
 pub mod KeepsChoose
 pub mod KeepsFresh
 pub mod Keeps
