@@ -1,11 +1,10 @@
 -- An admitted table's kind, and the budgets that its jobs arrive with (docs/SPECIFICATION.md §3.1, §5.3). Assumes nothing.
-use Prim.Native.Nat.{ℕ, suc, _+_, _≤_, _<_}
+use Prim.Native.Nat.{ℕ, _+_, _≤_, _<_}
 use mathlib.Core.Path.{_≡_, refl, sym, ap, _∙_}
 use mathlib.Core.Bool.{true, false, not}
 use mathlib.Core.List.{List}
-use mathlib.Core.Logic.{_⊎_, inl, inr}
+use mathlib.Core.Logic.{_⊎_, inl, inr, ⊎-elim}
 use native.Mathlib.Omega.{arith}
-use lib.Dec.{ltb}
 use lib.IntN.{subℕ}
 use lib.ListN.{length}
 use borrow.Author.Tests.{le-ltb, ltb-false, not-true}
@@ -13,9 +12,10 @@ use Rattle.bounded.specs.Tests.{both}
 use Rattle.bounded.specs.All.{all-at}
 use Rattle.bounded.specs.Signed.{negative, difference-negative, difference-sub}
 use Rattle.edf.specs.Demand.{TaskSet, interference}
-use Rattle.table.specs.Rows.{tasksOf, firstBroken}
+use Rattle.table.specs.Rows.{tasksOf}
 use Rattle.table.specs.Budgets.{budgetOf, loose, looseTo}
-use Rattle.table.specs.Verdict.{badLength, overloaded, settled, opinionOf, answerOf}
+use Rattle.table.specs.Verdict.{Answer, badLength, answerOf}
+use Rattle.table.specs.Theorems.{answer-as}
 use Rattle.session.specs.Reading.{natural, startBy, startBudget}
 
 -- ---- the kind
@@ -29,16 +29,8 @@ abbrev pub Kind : TaskSet → ℕ → Type 0
 Kind τ k = ((k ≡ 1) × (loose τ ≡ true)) ⊎ (k ≡ 2)
 
 pub answer-kind : (l : List ℕ) (t : ℕ) → answerOf l t .number ≡ 0 → Kind (tasksOf l) (answerOf l t .first)
-unfolding answerOf opinionOf
 answer-kind l t z =
-    both (badLength (length l)) (λ e. none (simp e at z))
-    (λ e. both (ltb (firstBroken (tasksOf l)) (tasksOf l .rows)) (λ f. none (simp (e, f) at z))
-    (λ f. both (loose (tasksOf l)) (λ g. simp (e, f, g) (inl (refl, refl)))
-    (λ g. both (overloaded (tasksOf l)) (λ h. none (simp (e, f, g, h) at z))
-    (λ h. both (settled (tasksOf l)) (λ k. simp (e, f, g, h, k) (inr refl)) (λ k. none (simp (e, f, g, h, k) at z))))))
-  where
-    none : {n : ℕ} → suc n ≡ 0 → Kind (tasksOf l) (answerOf l t .first)
-    none e = absurd (omega arith)
+    ⊎-elim (λ a. inl (ap (λ (x : Answer). x .first) (a .1 t), a .0)) (λ a. inr (ap (λ (x : Answer). x .first) (a t))) (answer-as l t z)
 
 -- ---- the starting budget
 

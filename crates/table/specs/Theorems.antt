@@ -3,6 +3,7 @@ use Prim.Native.Nat.{ℕ, suc, _≤_, _<_}
 use mathlib.Core.Path.{_≡_, refl, sym, ap, _∙_}
 use mathlib.Core.Bool.{true, false, not}
 use mathlib.Core.List.{List}
+use mathlib.Core.Logic.{_⊎_, inl, inr, ⊎-elim}
 use native.Mathlib.Omega.{arith}
 use lib.Dec.{ltb}
 use lib.ListN.{length}
@@ -18,7 +19,7 @@ use Rattle.edf.specs.Overload.{overload}
 use Rattle.table.specs.Rows.{horizon, tasksOf, firstBroken, Fit, fit-of, fit-lawful}
 use Rattle.table.specs.Budgets.{budgetOf, loose, looseTo, valuesOf}
 use Rattle.table.specs.Busy.{busyLength}
-use Rattle.table.specs.Verdict.{Answer, badLength, comparedTo, firstOverload, overloaded, settled, opinionOf, answerOf}
+use Rattle.table.specs.Verdict.{Answer, admitted, badLength, comparedTo, firstOverload, overloaded, settled, opinionOf, answerOf}
 use Rattle.table.specs.Assess.{shownOf, Shows, shows-of, Assessed, length-fit}
 use Rattle.table.specs.declared.Numbers.{Numbers}
 use Rattle.table.specs.declared.Assessment.{Assessment}
@@ -176,15 +177,30 @@ answer-number l t u =
     (λ e. both (ltb (firstBroken (tasksOf l)) (tasksOf l .rows)) (λ f. simp (e, f))
     (λ f. both (loose (tasksOf l)) (λ g. simp (e, f, g)) (λ g. both (overloaded (tasksOf l)) (λ h. simp (e, f, g, h)) (λ h. simp (e, f, g, h)))))
 
-pub answer-admitted : (l : List ℕ) (t u : ℕ) → answerOf l t .number ≡ 0
-    → (answerOf l t ≡ answerOf l u) × (answerOf l t .budgets ≡ valuesOf (tasksOf l))
+-- what an admitted table's answer is, whichever t is named
+pub answer-as : (l : List ℕ) (t : ℕ) → answerOf l t .number ≡ 0
+    → ((loose (tasksOf l) ≡ true) × ((u : ℕ) → answerOf l u ≡ admitted 1 (tasksOf l))) ⊎ ((u : ℕ) → answerOf l u ≡ admitted 2 (tasksOf l))
 unfolding answerOf opinionOf
-answer-admitted l t u z =
+answer-as l t z =
     both (badLength (length l)) (λ e. no (simp e at z))
     (λ e. both (ltb (firstBroken (tasksOf l)) (tasksOf l .rows)) (λ f. no (simp (e, f) at z))
-    (λ f. both (loose (tasksOf l)) (λ g. (simp (e, f, g), simp (e, f, g)))
+    (λ f. both (loose (tasksOf l)) (λ g. inl (g, λ u. simp (e, f, g)))
     (λ g. both (overloaded (tasksOf l)) (λ h. no (simp (e, f, g, h) at z))
-    (λ h. both (settled (tasksOf l)) (λ k. (simp (e, f, g, h), simp (e, f, g, h, k))) (λ k. no (simp (e, f, g, h, k) at z))))))
+    (λ h. both (settled (tasksOf l)) (λ k. inr (λ u. simp (e, f, g, h, k))) (λ k. no (simp (e, f, g, h, k) at z))))))
   where
-    no : {n : ℕ} → suc n ≡ 0 → (answerOf l t ≡ answerOf l u) × (answerOf l t .budgets ≡ valuesOf (tasksOf l))
+    no : {n : ℕ} → suc n ≡ 0
+        → ((loose (tasksOf l) ≡ true) × ((u : ℕ) → answerOf l u ≡ admitted 1 (tasksOf l))) ⊎ ((u : ℕ) → answerOf l u ≡ admitted 2 (tasksOf l))
     no e = absurd (omega arith)
+
+pub answer-admitted : (l : List ℕ) (t u : ℕ) → answerOf l t .number ≡ 0
+    → (answerOf l t ≡ answerOf l u) × (answerOf l t .budgets ≡ valuesOf (tasksOf l))
+answer-admitted l t u z = ⊎-elim (λ a. by 1 (a .1)) (λ a. by 2 a) (answer-as l t z)
+  where
+    by : (k : ℕ) → ((u : ℕ) → answerOf l u ≡ admitted k (tasksOf l))
+        → (answerOf l t ≡ answerOf l u) × (answerOf l t .budgets ≡ valuesOf (tasksOf l))
+    by k a = (a t ∙ sym (a u), ap (λ (x : Answer). x .budgets) (a t))
+
+-- its second value is the number of rows
+pub answer-rows : (l : List ℕ) (t : ℕ) → answerOf l t .number ≡ 0 → answerOf l t .second ≡ tasksOf l .rows
+answer-rows l t z =
+    ⊎-elim (λ a. ap (λ (x : Answer). x .second) (a .1 t)) (λ a. ap (λ (x : Answer). x .second) (a t)) (answer-as l t z)

@@ -1,0 +1,5 @@
+pub mod Decimal
+pub mod Buffer
+pub mod Written
+pub mod Number
+pub mod RoundTrip

@@ -1,0 +1,56 @@
+-- `lines::read::next_line` meets its contract. Assumes nothing.
+use native.Mathlib.Omega.{arith}
+use lib.Seq.{length-take-le}
+use mathlib.Core.Path.{sym}
+use Rattle.lines.specs.Lines.{took-cases}
+use borrow.Author.Needs.{needs}
+use borrow.Author.Needs.{needs}
+use Rattle.lines.proofs.read.next_line.Statement.{statement}
+use Rattle.lines.proofs.read.next_line.Tie as tie
+use Rattle.lines.proofs.read.place.Reads as place-reads
+use Rattle.lines.proofs.read.read_line.Reads as read-line-reads
+
+sub-rest : tie.Need-sub-rest
+sub-rest c = search needs
+
+part-rest-start : tie.Need-part-rest-start
+part-rest-start c = search needs
+
+part-rest-end : tie.Need-part-rest-end
+part-rest-end c = search needs
+
+place-requires : tie.Need-place-requires
+place-requires c κs = search needs
+
+returns : tie.Need-returns
+returns c = search (needs, took-cases)
+
+slice-aggregate-read-line : tie.Need-slice-aggregate-read-line
+slice-aggregate-read-line c = sym (length-take-le _ _ (omega arith))
+
+read-line-requires : tie.Need-read-line-requires
+read-line-requires c κs = search needs
+
+add-t7 : tie.Need-add-t7
+add-t7 c = search needs
+
+add-t14 : tie.Need-add-t14
+add-t14 c = search needs
+
+returns-2 : tie.Need-returns-2
+returns-2 c = search (needs, took-cases)
+
+pub next-line-spec : {M : Type 1} → statement M
+next-line-spec =
+    tie.close
+    (tie.spec
+    sub-rest
+    part-rest-start
+    part-rest-end
+    place-requires
+    returns
+    slice-aggregate-read-line
+    read-line-requires
+    add-t7
+    add-t14
+    returns-2)

@@ -1,0 +1,5 @@
+pub mod Parted
+pub mod Line
+pub mod Code
+pub mod Lines
+pub mod Text

@@ -1,0 +1,153 @@
+-- From the table to the calls, and the entry point. Assumes nothing.
+use Prim.Native.Nat.{ℕ, suc, _+_, _-_, _*_, _/_, _≤_, _<_, min}
+use mathlib.Core.Path.{_≡_, refl, sym, ap, subst, _∙_}
+use mathlib.Core.Bool.{true, false}
+use mathlib.Core.List.{List, [], _∷_, _++_, append-nil}
+use mathlib.Core.Logic.{dite}
+use native.Mathlib.Omega.{arith}
+use native.Mathlib.Decide.{decLe}
+use lib.ListN.{length, take, drop}
+use lib.Seq.{take-all, length-take-le}
+use borrow.Author.Tests.{eq-eqb, ne-eqb}
+use Rattle.decimal.specs.Buffer.{Wrote, overlay, overlay-length, wrote-more}
+use Rattle.lines.specs.declared.read.Line.{Line}
+use Rattle.lines.specs.Lines.{linesOf}
+use Rattle.table.specs.declared.Numbers.{Numbers}
+use Rattle.table.specs.declared.Assessment.{Assessment}
+use Rattle.table.specs.Rows.{tasksOf}
+use Rattle.table.specs.Verdict.{Answer, answerOf, Exceeded}
+use Rattle.table.specs.Assess.{shownOf, Shows, shows-of, Assessed}
+use Rattle.table.specs.Theorems.{answer-rows}
+use Rattle.session.specs.declared.Session.{Session}
+use Rattle.session.specs.declared.admit.Admission.{Admission}
+use Rattle.session.specs.Reading.{rowsOf}
+use Rattle.session.specs.Admit.{sessionOf, Admitted}
+use Rattle.guarantee.specs.Good.{Good}
+use Rattle.guarantee.specs.KeepsFresh.{good-fresh}
+use Rattle.transcript.specs.declared.step.Play.{Play}
+use Rattle.transcript.specs.declared.rows.Rows.{Rows}
+use Rattle.transcript.specs.Step.{callsText}
+use Rattle.transcript.specs.Transcript.{inputLimit, inputLines, rowLimit, rowsIn, afterRows, admissionText, printedOf, longest, Printed, Transcribed, tooShort, printed}
+use Rattle.transcript.specs.Table.{Stated}
+use Rattle.transcript.specs.Plays.{Begun, owed}
+
+-- ---- the table's answer, and its session
+
+module _ (text : List ℕ) (t : Rows) (st : Stated text t) (ws : List ℕ) (e : ws ≡ take (3 * t .count) (t .words)) (a : Admission) (ad : Admitted ws a) where
+  -- the lines of the text
+  abbrev l : List Line
+  l = linesOf text
+
+  -- the t that the answer names
+  abbrev named : ℕ
+  named = shownOf (a .assessment) .first
+
+  rows-are : rowsIn rowLimit l ≡ ws
+  rows-are = st .rows ∙ sym e
+
+  answer-is : answerOf (rowsIn rowLimit l) named ≡ shownOf (a .assessment)
+  answer-is = ap (λ (x : List ℕ). answerOf x named) rows-are ∙ sym (ad .answer .answer)
+
+  witness : answerOf (rowsIn rowLimit l) named .number ≡ 3 → Exceeded (tasksOf (rowsIn rowLimit l)) named
+  witness z = rw rows-are (ad .answer .witness (sym (ap (λ (x : Answer). x .number) answer-is) ∙ z))
+
+  -- three numbers to a row
+  rows-count : length ws ≡ 3 * t .count
+  rows-count = ap length e ∙ length-take-le (3 * t .count) (t .words) (omega (arith, st .places, st .few))
+
+  -- an admitted table's second value is its number of rows
+  pub second-is : shownOf (a .assessment) .number ≡ 0 → shownOf (a .assessment) .second ≡ t .count
+  unfolding tasksOf
+  second-is z =
+      ap (λ (x : Answer). x .second) (ad .answer .answer)
+      ∙ answer-rows ws named (sym (ap (λ (x : Answer). x .number) (ad .answer .answer)) ∙ z)
+      ∙ omega (arith, rows-count)
+
+  module _ (n : Numbers) (sh : Shows (a .assessment .verdict) n) where
+    number-is : shownOf (a .assessment) .number ≡ n .number
+    number-is = ap (λ (x : Answer). x .number) (shows-of (a .assessment) n sh)
+
+    -- a refused table ends the output
+    text-refused : (n .number ≡ 0 → ⊥) → printedOf l named ≡ admissionText (shownOf (a .assessment))
+    unfolding printedOf
+    text-refused ne = rw (answer-is, ne-eqb (shownOf (a .assessment) .number) 0 (λ z. ne (sym number-is ∙ z))) (append-nil _)
+
+    pub print-refused : (before after : List ℕ) (r : ℕ) → (n .number ≡ 0 → ⊥) → Wrote 1478 (admissionText (shownOf (a .assessment))) before after 0 r
+        → Printed l before after r
+    print-refused before after r ne w = record {
+      t = named;
+      witness = witness;
+      buffer = w .buffer ∙ ap (overlay before 0) (sym (text-refused ne));
+      length = w .place ∙ (omega (arith, ap length (text-refused ne)));
+      fits = omega (arith, w .place, w .short);
+    }
+
+    module _ (z : n .number ≡ 0) (before middle : List ℕ) (end : ℕ) (w : Wrote 1478 (admissionText (shownOf (a .assessment))) before middle 0 end) where
+      -- the calls start from the fresh session, with no words, at the line after the rows
+      abbrev begin : Play
+      begin = record { session = a .session; from = 0; to = 0; line = t .count + 1; end = end; over = false }
+
+      good : Good ws (a .session)
+      good =
+          rw (ad .session)
+          (good-fresh ws named (sym (ap (λ (x : Answer). x .number) (ad .answer .answer)) ∙ number-is ∙ z))
+
+      pub print-begun : length text ≤ inputLimit → longest ≤ length middle → Begun text (t .at) begin middle
+      print-begun h k = record {
+        limit = h;
+        place = st .within;
+        kept = subst (λ (x : List ℕ). Good x (a .session)) (sym (good .rows)) good;
+        from = refl;
+        to = refl;
+        line = omega (arith, st .size);
+        end = omega (arith, w .place, w .short);
+        room = k;
+      }
+
+      count-is : suc (length (rowsIn rowLimit l) / 3) ≡ t .count + 1
+      count-is = omega (arith, ap length rows-are, rows-count)
+
+      text-calls : printedOf l named ≡ admissionText (shownOf (a .assessment)) ++ owed text begin [] (t .at)
+      unfolding printedOf
+      text-calls =
+          rw (answer-is, eq-eqb (shownOf (a .assessment) .number) 0 (number-is ∙ z), count-is, st .rest, rows-are, ad .session)
+
+      pub print-calls : (after : List ℕ) (r : ℕ) → longest ≤ length before → Wrote (longest - end) (owed text begin [] (t .at)) middle after end r
+          → Printed l before after r
+      print-calls after r k v =
+          let x = wrote-more 1478 (longest - end) (admissionText (shownOf (a .assessment))) (owed text begin [] (t .at)) before middle after 0 end r
+          (omega (arith, w .short)) w v in
+          record {
+            t = named;
+            witness = witness;
+            buffer = x .buffer ∙ ap (overlay before 0) (sym text-calls);
+            length = x .place ∙ (omega (arith, ap length text-calls));
+            fits = omega (arith, v .place, v .short, w .place, w .short);
+          }
+
+pub ruleset print-laws = (second-is, print-refused, print-begun, print-calls)
+
+-- ---- the entry point
+
+pub entry-short : (input before : List ℕ) → length before < longest → Transcribed input before before 0
+entry-short input before h = tooShort h refl refl
+
+limit-is : (input : List ℕ) (n : ℕ) → n ≡ min (length input) inputLimit → take n input ≡ take inputLimit input
+limit-is input n e =
+    dite (decLe (length input) inputLimit)
+    (λ h. take-all n input (omega arith) ∙ sym (take-all inputLimit input h))
+    (λ h. let k : n ≡ inputLimit = omega arith in ap (λ (m : ℕ). take m input) k)
+
+pub entry-printed : (input text before after : List ℕ) (n r : ℕ) → longest ≤ length before → n ≡ min (length input) inputLimit → text ≡ take n input
+    → Printed (linesOf text) before after r → Transcribed input before after r
+unfolding inputLines
+entry-printed input text before after n r h e f p =
+    printed h (subst (λ (x : List ℕ). Printed (linesOf x) before after r) (f ∙ limit-is input n e) p)
+
+pub ruleset entry-cases = (entry-short, entry-printed)
+
+-- for a caller who takes the text out of the buffer
+pub written-within : (input before after : List ℕ) (r : ℕ) → Transcribed input before after r → r ≤ length after
+written-within input before after r (tooShort h e z) = omega arith
+written-within input before after r (printed h p) =
+    omega (arith, p .fits, ap length (p .buffer), overlay-length before 0 (printedOf (inputLines input) (p .t)) (omega (arith, p .fits, p .length)))

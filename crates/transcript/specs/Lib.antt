@@ -1,0 +1,7 @@
+pub mod Step
+pub mod Play
+pub mod Transcript
+pub mod Table
+pub mod Admission
+pub mod Plays
+pub mod Entry

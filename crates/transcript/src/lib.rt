@@ -1,0 +1,65 @@
+// The text that `shuffle` reads and writes, as one function from bytes to bytes (docs/SPECIFICATION.md §8).
+ghost use mathlib.Core.Path.{_≡_};
+ghost use Prim.Native.Nat.{_≤_, min};
+ghost use lib.ListN.{length};
+ghost use Rattle.lines.specs.Lines.{linesOf};
+ghost use Rattle.transcript.specs.Transcript.{inputLimit, longest, Printed, Transcribed};
+use step::Play;
+
+pub mod admission;
+pub mod play;
+pub mod rows;
+pub mod step;
+
+// How many bytes of the input are read.
+pub const INPUT: usize = 65536;
+
+// A buffer of this length holds every output.
+pub const LONGEST: usize = 2819612;
+
+fn least(n: usize) -> usize
+    ensures { λ r. ⌜ r ≡ min n inputLimit ⌝ }
+{
+    if n < INPUT { n } else { INPUT }
+}
+
+// A text that may be read whole.
+fn print(text: &[u8], out: &mut [u8]) -> usize
+    requires { ⌜ (length (now text) ≤ inputLimit) × (longest ≤ length (now out)) ⌝ }
+    ensures { λ r. ⌜ Printed (linesOf (now (text .entry))) (now (out .entry)) (now (out .exit)) r ⌝ }
+{
+    let t = rows::read_rows(text);
+    let words = t.words;
+    let count = t.count;
+    let e = 3 * count;
+    let a = session::admit::admit(&words[..e]);
+    let assessment = a.assessment;
+    let end = admission::put_admission(out, assessment, count);
+    let verdict = assessment.verdict;
+    let n = table::shown(verdict);
+    if n.number != 0 {
+        return end;
+    }
+    let session = a.session;
+    let p = Play {
+        session,
+        from: 0,
+        to: 0,
+        line: (count as u64) + 1,
+        end,
+        over: false,
+    };
+    play::play(text, t.at, p, out)
+}
+
+// Writes the answers to the first 65,536 bytes of the input to the start of `out`, and gives their length. A buffer shorter
+// than `LONGEST` is left as it is, and the answer is 0.
+pub fn transcribe(input: &[u8], out: &mut [u8]) -> usize
+    ensures { λ r. ⌜ Transcribed (now (input .entry)) (now (out .entry)) (now (out .exit)) r ⌝ }
+{
+    if out.len() < LONGEST {
+        return 0;
+    }
+    let n = least(input.len());
+    print(&input[..n], out)
+}

@@ -1,0 +1,195 @@
+//! Times a program against the model on the heaviest inputs.
+
+use std::io::{self, Write};
+use std::process::{self, Stdio};
+use std::time::Instant;
+
+use shuffle_model::driver::Driver;
+use shuffle_model::options::{fail, Options};
+use shuffle_model::session::IDLE;
+use shuffle_model::table::{Kind, Row};
+use shuffle_model::text::{leading_rows, run, Command, INPUT_LIMIT};
+
+fn main() {
+    let options = Options::read(&["--program", "--model", "--runs"]);
+    let programs = ["--program", "--model"].map(|name| options.required(name));
+    let runs: usize = options.number("--runs", 21);
+
+    println!("| Input | Lines | Program ms | Model ms | Ratio | Ratio without start |");
+    println!("|---|---:|---:|---:|---:|---:|");
+    let start = median_times(&programs, &[], runs);
+    print_row("empty: the cost of a start", 0, start, None);
+    for (name, input) in inputs() {
+        check(name, &input);
+        let lines = input.iter().filter(|byte| **byte == b'\n').count();
+        let times = median_times(&programs, &input, runs);
+        print_row(name, lines, times, Some(start));
+    }
+}
+
+fn print_row(name: &str, lines: usize, times: [f64; 2], start: Option<[f64; 2]>) {
+    let [program, model] = times;
+    let without_start = start.map_or("".to_string(), |[program_start, model_start]| {
+        format!("{:.2}", (program - program_start) / (model - model_start))
+    });
+    println!(
+        "| {name} | {lines} | {program:.2} | {model:.2} | {:.2} | {without_start} |",
+        program / model
+    );
+}
+
+/// The median wall time of each program in ms, the two run alternately.
+fn median_times(programs: &[&str; 2], input: &[u8], runs: usize) -> [f64; 2] {
+    let expected = run(input);
+    let mut times = [Vec::new(), Vec::new()];
+    for _ in 0..runs {
+        for (program, times) in programs.iter().zip(&mut times) {
+            let start = Instant::now();
+            let output = output_of(program, input)
+                .unwrap_or_else(|error| fail(&format!("{program} does not run: {error}")));
+            times.push(start.elapsed().as_secs_f64() * 1_000.0);
+            if output != expected {
+                fail(&format!("{program}: the output is not the model's"));
+            }
+        }
+    }
+    times.map(|mut times| {
+        times.sort_by(f64::total_cmp);
+        times[times.len() / 2]
+    })
+}
+
+/// Runs a program without further threads, whose wake-ups would blur the time.
+fn output_of(program: &str, input: &[u8]) -> io::Result<Vec<u8>> {
+    let mut child = process::Command::new(program)
+        .stdin(Stdio::piped())
+        .stdout(Stdio::piped())
+        .spawn()?;
+    // The input fits into the pipe, so this cannot wait for the output.
+    let mut stdin = child.stdin.take().expect("it was asked for");
+    stdin.write_all(input)?;
+    drop(stdin);
+    Ok(child.wait_with_output()?.stdout)
+}
+
+/// Every line but those of T and W must be answered, none as unreadable.
+fn check(name: &str, input: &[u8]) {
+    let output = String::from_utf8(run(input)).expect("the model prints text");
+    let text = String::from_utf8_lossy(input);
+    let rows = leading_rows(input).len();
+    let silent = text.lines().filter(|line| line.starts_with('W')).count() + rows;
+    let expected = 1 + rows + text.lines().count() - silent;
+    assert_eq!(output.lines().count(), expected, "{name}");
+    assert!(!output.contains('?'), "{name}");
+}
+
+/// An input that a step fills with lines, cut after the last whole line.
+fn build(rows: &[Row], kind: Kind, step: fn(&mut Driver)) -> Vec<u8> {
+    let mut driver = Driver::new(rows);
+    assert_eq!(driver.machine.session.kind, kind);
+    while driver.text.len() <= INPUT_LIMIT {
+        step(&mut driver);
+    }
+    let mut text = driver.text;
+    text.truncate(INPUT_LIMIT);
+    let whole_lines = text.iter().rposition(|byte| *byte == b'\n');
+    text.truncate(whole_lines.map_or(0, |newline| newline + 1));
+    text
+}
+
+fn inputs() -> Vec<(&'static str, Vec<u8>)> {
+    // Different deadlines, so that each inversion is charged to many jobs.
+    let loose: Vec<Row> = (0..16)
+        .map(|row| Row::from([20, 3_000 + 50 * row, 3_000 + 50 * row]))
+        .collect();
+    let mut tight: Vec<Row> = (0..16)
+        .map(|row| Row::from([1, 40 + row, 40 + row]))
+        .collect();
+    tight[0].deadline = 10;
+    let single = [Row::from([1, 1, 1])];
+    let even = [Row::from([1, 32, 32]); 16];
+    vec![
+        (
+            "16 rows loose, short spans",
+            build(&loose, Kind::Loose, short_span),
+        ),
+        ("16 rows tight", build(&tight, Kind::Tight, whole_span)),
+        ("one row", build(&single, Kind::Loose, whole_span)),
+        (
+            "choose and finish",
+            build(&even, Kind::Loose, choose_and_finish),
+        ),
+        ("refused choices", build(&single, Kind::Loose, only_choose)),
+        (
+            "words and choices",
+            build(&even, Kind::Loose, word_and_choose),
+        ),
+    ]
+}
+
+/// Lets every row arrive that may.
+fn arrivals(driver: &mut Driver) {
+    for row in 0..driver.machine.session.rows.len() {
+        let session = &driver.machine.session;
+        if session.slots[row].next <= session.clock {
+            driver.push(Command::Arrive(row as u32));
+        }
+    }
+}
+
+/// Advances by the whole span, or under idle up to the next arrival; every
+/// row that may arrive must have done so.
+fn advance(driver: &mut Driver) {
+    let session = &driver.machine.session;
+    let choice = session.choice.expect("a choice was made");
+    let ticks = if choice.row == IDLE {
+        let nexts = session.slots.iter().map(|slot| slot.next);
+        let next = nexts.min().expect("a table has rows");
+        choice.left.min(next - session.clock)
+    } else {
+        choice.left
+    };
+    driver.push(Command::Advance(ticks as u32));
+}
+
+/// Words that take the last candidate for one tick, while budgets last.
+fn short_span(driver: &mut Driver) {
+    arrivals(driver);
+    let session = &driver.machine.session;
+    let waiting = session.waiting().count() as u32;
+    let can_wait = session.waiting().all(|job| job.budget >= 1);
+    if waiting > 0 && can_wait {
+        driver.push(Command::Word(waiting));
+        driver.push(Command::Word(0));
+    }
+    driver.push(Command::Choose);
+    advance(driver);
+}
+
+fn whole_span(driver: &mut Driver) {
+    arrivals(driver);
+    driver.push(Command::Choose);
+    advance(driver);
+}
+
+fn choose_and_finish(driver: &mut Driver) {
+    arrivals(driver);
+    driver.push(Command::Choose);
+    if driver.machine.session.waiting().next().is_some() {
+        driver.push(Command::Finish);
+    } else {
+        advance(driver);
+    }
+}
+
+fn only_choose(driver: &mut Driver) {
+    driver.push(Command::Choose);
+}
+
+/// Keeps many words waiting, so that dropping the first ones costs most.
+fn word_and_choose(driver: &mut Driver) {
+    while driver.machine.words.len() < 1_000 {
+        driver.push(Command::Word(0));
+    }
+    whole_span(driver);
+}

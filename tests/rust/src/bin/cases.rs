@@ -1,0 +1,129 @@
+//! Writes stored cases: `cases DIR` makes DIR/stdin and DIR/stdout.
+//!
+//! In `stdin` each case is a line with its length in bytes, then the bytes.
+//! In `stdout` each case is the model's output, then a line `--`.
+
+use std::fs;
+use std::io;
+use std::path::Path;
+
+use shuffle_model::damage::DAMAGES;
+use shuffle_model::driver::table_text;
+use shuffle_model::inputs::{
+    full_run, light_run, odd_number_input, short_run, small_run, ODD_LINES, ODD_NUMBERS, SPECIALS,
+};
+use shuffle_model::options::fail;
+use shuffle_model::rng::Rng;
+use shuffle_model::specification::{listing, plain, EXAMPLES};
+use shuffle_model::table::{admit_rows, compared_range, overloads_by_scan, Row};
+use shuffle_model::tables::{light_rows, urgent_rows, RowMaker};
+use shuffle_model::text::{leading_rows, run};
+
+const SEED: u64 = 7;
+const CASES: usize = 400;
+const LONGEST_CASE: usize = 3_999;
+const LONGEST_RANDOM_CASE: usize = 500;
+const LONGEST_STDIN: usize = 60_000;
+
+fn main() -> io::Result<()> {
+    let arguments: Vec<String> = std::env::args().skip(1).collect();
+    let [directory] = arguments.as_slice() else {
+        fail("usage: cases DIR");
+    };
+    let (stdin, stdout) = store(&all_cases());
+    assert!(stdin.len() < LONGEST_STDIN, "{} bytes", stdin.len());
+    fs::write(Path::new(directory).join("stdin"), stdin)?;
+    fs::write(Path::new(directory).join("stdout"), stdout)
+}
+
+fn store(cases: &[Vec<u8>]) -> (Vec<u8>, Vec<u8>) {
+    let mut stdin = Vec::new();
+    let mut stdout = Vec::new();
+    for case in cases {
+        stdin.extend(format!("{}\n", case.len()).bytes());
+        stdin.extend(case);
+        stdout.extend(run(case));
+        stdout.extend(b"--\n");
+    }
+    (stdin, stdout)
+}
+
+/// The fixed cases first, then random runs up to the number of cases.
+fn all_cases() -> Vec<Vec<u8>> {
+    let mut rng = Rng::new(SEED);
+    let mut cases = fixed_cases();
+    cases.extend(overloaded_cases(&mut rng, 12));
+    cases.extend(damaged_cases(&mut rng, 3));
+    cases.retain(|case| case.len() <= LONGEST_CASE && has_one_output(case));
+    while cases.len() < CASES {
+        let make = rng.pick(&[light_run, small_run, small_run, full_run, short_run]);
+        let case = make(&mut rng);
+        if case.len() <= LONGEST_RANDOM_CASE && has_one_output(&case) {
+            cases.push(case);
+        }
+    }
+    cases
+}
+
+fn fixed_cases() -> Vec<Vec<u8>> {
+    let listing = [listing().0.into_bytes()].into_iter();
+    let tables = EXAMPLES.iter().map(|example| table_text(&example.rows()));
+    let texts = SPECIALS.iter().chain(REFUSALS);
+    let texts = texts.map(|text| plain(text).into_bytes());
+    let many_rows = [16, 17, 18].map(|count| table_text(&vec![Row::from([1, 20, 20]); count]));
+    // Each odd number once, and each odd line with a number too great by one.
+    let each_number = ODD_LINES.iter().cycle().zip(ODD_NUMBERS);
+    let each_line = ODD_LINES.iter().map(|line| (line, &"4294967296"));
+    let odd = each_number.chain(each_line);
+    let odd = odd.map(|(line, number)| odd_number_input(line, number));
+    let fixed = listing.chain(tables).chain(texts).chain(many_rows);
+    fixed.chain(odd).collect()
+}
+
+/// One input for each refusal of the four calls, and what is accepted next.
+const REFUSALS: &[&str] = &[
+    "T 2 10 10/A 1/A 16/A 4294967295/A 0/",
+    "T 2 10 10/A 0/G/R 2/A 0/G/R 7/A 0/R 1/A 0/",
+    "T 2 10 10/G/G/A 0/G/G/R 1/G/",
+    "T 2 10 10/R 1/R 0/F/G/R 1/",
+    "T 2 10 10/A 0/G/R 0/R 3/R 1/R 2/R 4294967295/R 1/R 1/",
+    "T 2 10 10/G/F/A 0/F/G/F/F/",
+];
+
+/// Whether the output is determined: refusal 3 may name any overloaded tick.
+fn has_one_output(case: &[u8]) -> bool {
+    let rows = leading_rows(case);
+    match admit_rows(&rows) {
+        Err(refusal) if refusal.number == 3 => {
+            let mut overloads = overloads_by_scan(&rows, compared_range(&rows));
+            overloads.nth(1).is_none()
+        }
+        _ => true,
+    }
+}
+
+/// Tables refused as overloaded at exactly one tick.
+fn overloaded_cases(rng: &mut Rng, count: usize) -> Vec<Vec<u8>> {
+    let mut cases = Vec::new();
+    while cases.len() < count {
+        let makers: [RowMaker; 2] = [urgent_rows, light_rows];
+        let text = table_text(&rng.pick(&makers)(rng));
+        if run(&text).starts_with(b"0\tM\t3") && has_one_output(&text) {
+            cases.push(text);
+        }
+    }
+    cases
+}
+
+/// Each kind of damage to some short runs.
+fn damaged_cases(rng: &mut Rng, each: usize) -> Vec<Vec<u8>> {
+    let mut cases = Vec::new();
+    for damage in DAMAGES {
+        for _ in 0..each {
+            let mut text = short_run(rng);
+            (damage.apply)(rng, &mut text);
+            cases.push(text);
+        }
+    }
+    cases
+}

@@ -1,0 +1,174 @@
+//! The four calls: arrive, choose, advance, finish.
+
+use crate::session::{Choice, Job, Session, Slot, CLOCK_END, IDLE};
+use crate::table::HORIZON;
+
+/// A call with its arguments.
+#[derive(Clone, Copy, Debug, PartialEq, Eq)]
+pub enum Call<'a> {
+    Arrive(u32),
+    Choose(&'a [u32]),
+    Advance(u32),
+    Finish,
+}
+
+/// An answer: its number (0 if accepted), two values, and how many words the
+/// call used.
+#[derive(Clone, Copy, Debug, PartialEq, Eq)]
+pub struct Answer {
+    pub number: u32,
+    pub values: [u64; 2],
+    pub words_used: usize,
+}
+
+impl Answer {
+    fn accepted(first: u64, second: u64) -> Self {
+        Answer::refused(0, first, second)
+    }
+
+    fn refused(number: u32, first: u64, second: u64) -> Self {
+        Answer {
+            number,
+            values: [first, second],
+            words_used: 0,
+        }
+    }
+}
+
+/// Makes a call on a session of any content.
+pub fn perform(session: &mut Session, call: Call) -> Answer {
+    if session.is_sound() {
+        perform_on_sound(session, call)
+    } else {
+        Answer::refused(5, 0, 0)
+    }
+}
+
+/// Makes a call on a session that the caller knows to be sound.
+pub fn perform_on_sound(session: &mut Session, call: Call) -> Answer {
+    match call {
+        Call::Arrive(row) => arrive(session, row),
+        Call::Choose(words) => choose(session, words),
+        Call::Advance(ticks) => advance(session, u64::from(ticks)),
+        Call::Finish => finish(session),
+    }
+}
+
+fn arrive(session: &mut Session, row: u32) -> Answer {
+    let index = row as usize;
+    let Some(task) = session.rows.get(index) else {
+        return Answer::refused(6, u64::from(row), 0);
+    };
+    let next = session.slots[index].next;
+    if session.clock < next {
+        return Answer::refused(7, u64::from(row), next);
+    }
+    let due = session.clock + u64::from(task.deadline);
+    session.slots[index] = Slot {
+        next: session.clock + u64::from(task.period),
+        job: Some(Job {
+            due,
+            left: u64::from(task.run),
+            budget: session.full_budget(index),
+        }),
+    };
+    session.choice = None;
+    Answer::accepted(u64::from(row), due)
+}
+
+/// The rows that may be chosen, in order, idle last; never empty.
+pub fn candidates(session: &Session) -> Vec<u32> {
+    let mut order: Vec<(u64, u32)> = (0..IDLE)
+        .filter_map(|row| session.job(row).map(|job| (job.due, row)))
+        .collect();
+    order.sort_unstable();
+    let waiting = order.into_iter().map(|(_, row)| row);
+    let mut candidates: Vec<u32> = waiting.chain([IDLE]).collect();
+    let head = candidates[0];
+    // With nothing waiting the head is idle, which has no budget to spend.
+    let head_can_wait = session.job(head).is_some_and(|job| job.budget >= 1);
+    candidates.retain(|row| {
+        *row == head || head_can_wait && session.earlier(*row).all(|job| job.budget >= 1)
+    });
+    candidates
+}
+
+fn choose(session: &mut Session, words: &[u32]) -> Answer {
+    if let Some(choice) = session.choice {
+        return Answer::refused(8, choice.left, 0);
+    }
+    let candidates = candidates(session);
+    let first_word = words.first().filter(|_| candidates.len() >= 2);
+    let row = first_word.map_or(candidates[0], |word| {
+        candidates[*word as usize % candidates.len()]
+    });
+    // Idle has no remaining ticks; no budget exceeds the horizon.
+    let remaining = session.job(row).map_or(HORIZON, |job| job.left);
+    let (span, words_used) = match session.earlier(row).map(|job| job.budget as u64).min() {
+        None => (remaining, usize::from(first_word.is_some())),
+        Some(least_budget) => {
+            let longest = remaining.min(least_budget);
+            match words.get(1) {
+                Some(word) => (1 + u64::from(*word) % longest, 2),
+                None => (longest, 1),
+            }
+        }
+    };
+    session.choice = Some(Choice { row, left: span });
+    Answer {
+        words_used,
+        ..Answer::accepted(u64::from(row), span)
+    }
+}
+
+fn advance(session: &mut Session, ticks: u64) -> Answer {
+    let Some(choice) = session.choice else {
+        return Answer::refused(9, 0, 0);
+    };
+    if ticks == 0 || ticks > choice.left {
+        return Answer::refused(10, choice.left, 0);
+    }
+    if session.clock + ticks > CLOCK_END {
+        return Answer::refused(12, CLOCK_END, 0);
+    }
+    session.clock += ticks;
+    let due = session.job(choice.row).map(|job| job.due);
+    for job in session
+        .slots
+        .iter_mut()
+        .filter_map(|slot| slot.job.as_mut())
+    {
+        if due.is_none_or(|due| job.due < due) {
+            job.budget -= ticks as i64;
+        }
+    }
+    let left = choice.left - ticks;
+    session.choice = (left > 0).then_some(Choice { left, ..choice });
+    let over = choice.row != IDLE && run_job(&mut session.slots[choice.row as usize], ticks);
+    Answer::accepted(left, u64::from(over))
+}
+
+/// Runs the job of a slot, and says whether it is over.
+fn run_job(slot: &mut Slot, ticks: u64) -> bool {
+    slot.job = slot
+        .job
+        .map(|job| Job {
+            left: job.left - ticks,
+            ..job
+        })
+        .filter(|job| job.left > 0);
+    slot.job.is_none()
+}
+
+fn finish(session: &mut Session) -> Answer {
+    let Some(choice) = session.choice else {
+        return Answer::refused(9, 0, 0);
+    };
+    let Some(job) = session.job(choice.row) else {
+        return Answer::refused(11, 0, 0);
+    };
+    let unused = job.left;
+    session.slots[choice.row as usize].job = None;
+    session.choice = None;
+    Answer::accepted(u64::from(choice.row), unused)
+}

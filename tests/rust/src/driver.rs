@@ -1,0 +1,36 @@
+//! Builds an input while the model follows it, so that the next line can be
+//! picked to be accepted or refused.
+
+use crate::table::{admit_rows, Row};
+use crate::text::{Command, Machine, Outcome};
+
+pub struct Driver {
+    pub machine: Machine,
+    pub text: Vec<u8>,
+}
+
+impl Driver {
+    /// Opens an input with the rows of a table, which must be admitted.
+    pub fn new(rows: &[Row]) -> Self {
+        let table = admit_rows(rows).expect("a driver needs an admitted table");
+        Driver {
+            machine: Machine::new(table),
+            text: table_text(rows),
+        }
+    }
+
+    /// Appends a line and lets the model perform it.
+    pub fn push(&mut self, command: Command) -> Outcome {
+        command.write(&mut self.text);
+        self.machine.execute(command)
+    }
+}
+
+/// The T lines of a table, admitted or not.
+pub fn table_text(rows: &[Row]) -> Vec<u8> {
+    let mut text = Vec::new();
+    for row in rows {
+        Command::Row(*row).write(&mut text);
+    }
+    text
+}

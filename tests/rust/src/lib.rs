@@ -1,0 +1,18 @@
+//! An independent model of the shuffled earliest-deadline scheduler, written
+//! from the specification alone, and what the comparing tools share.
+
+pub mod calls;
+pub mod damage;
+pub mod driver;
+pub mod inputs;
+pub mod options;
+pub mod process;
+pub mod rng;
+pub mod runs;
+pub mod session;
+pub mod shrink;
+pub mod specification;
+pub mod table;
+pub mod tables;
+pub mod tally;
+pub mod text;

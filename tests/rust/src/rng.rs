@@ -1,0 +1,45 @@
+//! A small deterministic source of random numbers (SplitMix64).
+
+#[derive(Clone, Debug)]
+pub struct Rng {
+    state: u64,
+}
+
+impl Rng {
+    pub fn new(seed: u64) -> Self {
+        Rng { state: seed }
+    }
+
+    /// The source for one numbered case of a seed.
+    pub fn for_case(seed: u64, case: u64) -> Self {
+        Rng::new(Rng::new(seed).draw().wrapping_add(Rng::new(case).draw()))
+    }
+
+    /// The next 64 random bits.
+    pub fn draw(&mut self) -> u64 {
+        self.state = self.state.wrapping_add(0x9e37_79b9_7f4a_7c15);
+        let mut mixed = self.state;
+        mixed = (mixed ^ (mixed >> 30)).wrapping_mul(0xbf58_476d_1ce4_e5b9);
+        mixed = (mixed ^ (mixed >> 27)).wrapping_mul(0x94d0_49bb_1331_11eb);
+        mixed ^ (mixed >> 31)
+    }
+
+    /// A number below `bound`, which must not be 0.
+    pub fn below(&mut self, bound: usize) -> usize {
+        (self.draw() % bound as u64) as usize
+    }
+
+    /// A number from `low` to `high`, both included.
+    pub fn between(&mut self, low: u32, high: u32) -> u32 {
+        low + (self.draw() % (u64::from(high - low) + 1)) as u32
+    }
+
+    /// True `hits` times out of `of`.
+    pub fn chance(&mut self, hits: usize, of: usize) -> bool {
+        self.below(of) < hits
+    }
+
+    pub fn pick<T: Copy>(&mut self, items: &[T]) -> T {
+        items[self.below(items.len())]
+    }
+}

@@ -1,0 +1,125 @@
+//! The session record and when it is sound.
+
+use crate::table::{admit_rows, budget, Kind, Row, Table, HORIZON};
+
+/// The last tick the clock may show.
+pub const CLOCK_END: u64 = 1 << 53;
+/// The row number that stands for idle.
+pub const IDLE: u32 = 16;
+
+/// A waiting job: absolute deadline, remaining ticks, inversion budget left.
+#[derive(Clone, Copy, Debug, PartialEq, Eq)]
+pub struct Job {
+    pub due: u64,
+    pub left: u64,
+    pub budget: i64,
+}
+
+/// What changes for one row: its earliest next arrival and its waiting job.
+#[derive(Clone, Copy, Debug, Default, PartialEq, Eq)]
+pub struct Slot {
+    pub next: u64,
+    pub job: Option<Job>,
+}
+
+/// The choice in force: a row or `IDLE`, and its ticks left.
+#[derive(Clone, Copy, Debug, PartialEq, Eq)]
+pub struct Choice {
+    pub row: u32,
+    pub left: u64,
+}
+
+/// A session; slot i belongs to row i.
+#[derive(Clone, Debug, PartialEq, Eq)]
+pub struct Session {
+    pub clock: u64,
+    pub rows: Vec<Row>,
+    pub kind: Kind,
+    pub slots: Vec<Slot>,
+    pub choice: Option<Choice>,
+}
+
+impl Session {
+    /// The fresh session of an admitted table.
+    pub fn new(table: Table) -> Self {
+        Session {
+            clock: 0,
+            slots: vec![Slot::default(); table.rows.len()],
+            rows: table.rows,
+            kind: table.kind,
+            choice: None,
+        }
+    }
+
+    /// The budget with which a job of this row arrives.
+    pub fn full_budget(&self, row: usize) -> i64 {
+        match self.kind {
+            Kind::Loose => budget(&self.rows, row),
+            Kind::Tight => 0,
+        }
+    }
+
+    /// The waiting job of a row; idle has none.
+    pub fn job(&self, row: u32) -> Option<&Job> {
+        self.slots.get(row as usize)?.job.as_ref()
+    }
+
+    /// All waiting jobs, by row number.
+    pub fn waiting(&self) -> impl Iterator<Item = &Job> {
+        self.slots.iter().filter_map(|slot| slot.job.as_ref())
+    }
+
+    /// Waiting jobs of strictly earlier deadline than that of this row; under
+    /// idle every waiting job counts as earlier.
+    pub fn earlier(&self, row: u32) -> impl Iterator<Item = &Job> {
+        let due = self.job(row).map(|job| job.due);
+        self.waiting()
+            .filter(move |job| due.is_none_or(|due| job.due < due))
+    }
+
+    /// Soundness as the specification states it, for a session of any content.
+    pub fn is_sound(&self) -> bool {
+        self.kind_is_right()
+            && self.clock <= CLOCK_END
+            && self.slots.len() == self.rows.len()
+            && (0..self.rows.len()).all(|row| self.slot_is_sound(row))
+            && self.choice.is_none_or(|choice| self.allows(choice))
+    }
+
+    fn kind_is_right(&self) -> bool {
+        admit_rows(&self.rows).is_ok_and(|table| table.kind == self.kind)
+    }
+
+    /// Compared over i128, so that no value of the record can wrap.
+    fn slot_is_sound(&self, row: usize) -> bool {
+        let slot = &self.slots[row];
+        let Row {
+            run,
+            period,
+            deadline,
+        } = self.rows[row];
+        let next = i128::from(slot.next);
+        let due = next - i128::from(period) + i128::from(deadline);
+        next <= i128::from(self.clock) + i128::from(period)
+            && slot.job.is_none_or(|job| {
+                (1..=u64::from(run)).contains(&job.left)
+                    && i128::from(job.due) == due
+                    && self.clock < job.due
+                    && (0..=self.full_budget(row)).contains(&job.budget)
+            })
+    }
+
+    /// Whether a choice fits the waiting jobs.
+    fn allows(&self, choice: Choice) -> bool {
+        let left = choice.left;
+        let fits_row = match self.job(choice.row) {
+            Some(job) => left <= job.left,
+            None => choice.row == IDLE,
+        };
+        fits_row
+            && (1..=HORIZON).contains(&left)
+            && self
+                .earlier(choice.row)
+                .all(|job| i128::from(left) <= i128::from(job.budget))
+    }
+}

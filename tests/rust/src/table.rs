@@ -1,0 +1,193 @@
+//! Task tables: rows, inversion budgets, demand bound, busy length, admission.
+
+/// Most rows in a table.
+pub const ROW_LIMIT: usize = 16;
+/// Longest period, and the last tick at which demand is compared.
+pub const HORIZON: u64 = 1_000_000;
+
+/// One task: longest run (C), period (T) and relative deadline (D).
+#[derive(Clone, Copy, Debug, PartialEq, Eq)]
+pub struct Row {
+    pub run: u32,
+    pub period: u32,
+    pub deadline: u32,
+}
+
+impl Row {
+    /// 1 ≤ C ≤ D ≤ T ≤ 1,000,000.
+    pub fn is_lawful(&self) -> bool {
+        1 <= self.run
+            && self.run <= self.deadline
+            && self.deadline <= self.period
+            && u64::from(self.period) <= HORIZON
+    }
+
+    /// The row as it stands in a slice: C, T, D.
+    pub fn numbers(&self) -> [u32; 3] {
+        [self.run, self.period, self.deadline]
+    }
+}
+
+impl From<[u32; 3]> for Row {
+    fn from([run, period, deadline]: [u32; 3]) -> Self {
+        Row {
+            run,
+            period,
+            deadline,
+        }
+    }
+}
+
+/// How a table was admitted; the number is the one shown in answers.
+#[derive(Clone, Copy, Debug, PartialEq, Eq)]
+pub enum Kind {
+    Loose = 1,
+    Tight = 2,
+}
+
+/// A refusal of admission: its number and two values.
+#[derive(Clone, Copy, Debug, PartialEq, Eq)]
+pub struct Refusal {
+    pub number: u32,
+    pub values: [u64; 2],
+}
+
+impl Refusal {
+    fn new(number: u32, first: u64, second: u64) -> Self {
+        Refusal {
+            number,
+            values: [first, second],
+        }
+    }
+}
+
+/// The rows and kind of an admitted table.
+#[derive(Clone, Debug, PartialEq, Eq)]
+pub struct Table {
+    pub rows: Vec<Row>,
+    pub kind: Kind,
+}
+
+/// Admission of a slice that holds three numbers to a row.
+pub fn admit(numbers: &[u32]) -> Result<Table, Refusal> {
+    let length = numbers.len();
+    if length == 0 || length > 3 * ROW_LIMIT || !length.is_multiple_of(3) {
+        return Err(Refusal::new(1, length as u64, 0));
+    }
+    let rows: Vec<Row> = numbers
+        .chunks_exact(3)
+        .map(|row| Row::from([row[0], row[1], row[2]]))
+        .collect();
+    if let Some(unlawful) = rows.iter().position(|row| !row.is_lawful()) {
+        return Err(Refusal::new(2, unlawful as u64, 0));
+    }
+    let kind = kind_of(&rows)?;
+    Ok(Table { rows, kind })
+}
+
+/// Admission of rows, as if they were handed in as a slice.
+pub fn admit_rows(rows: &[Row]) -> Result<Table, Refusal> {
+    let numbers: Vec<u32> = rows.iter().flat_map(Row::numbers).collect();
+    admit(&numbers)
+}
+
+/// The kind of lawful rows, or refusal 3 or 4.
+fn kind_of(rows: &[Row]) -> Result<Kind, Refusal> {
+    if (0..rows.len()).all(|row| budget(rows, row) >= 0) {
+        return Ok(Kind::Loose);
+    }
+    if let Some((tick, demand)) = first_overload(rows, compared_range(rows)) {
+        return Err(Refusal::new(3, tick, demand));
+    }
+    match busy_length(rows) {
+        Some(_) => Ok(Kind::Tight),
+        None => Err(Refusal::new(4, HORIZON, 0)),
+    }
+}
+
+/// The inversion budget V of a row; all rows must be lawful.
+pub fn budget(rows: &[Row], row: usize) -> i64 {
+    let own = rows[row];
+    let interference: i64 = rows
+        .iter()
+        .enumerate()
+        .filter(|(other, _)| *other != row)
+        .map(|(_, other)| i64::from(other.run) * i64::from(own.deadline.div_ceil(other.period)))
+        .sum();
+    i64::from(own.deadline) - i64::from(own.run) - interference
+}
+
+/// The demand bound at a tick; all rows must be lawful.
+pub fn demand(rows: &[Row], tick: u64) -> u64 {
+    rows.iter()
+        .filter(|row| u64::from(row.deadline) <= tick)
+        .map(|row| {
+            let later_jobs = (tick - u64::from(row.deadline)) / u64::from(row.period);
+            u64::from(row.run) * (later_jobs + 1)
+        })
+        .sum()
+}
+
+/// What all rows ask for within `length` ticks of arriving together.
+fn request(rows: &[Row], length: u64) -> u64 {
+    rows.iter()
+        .map(|row| u64::from(row.run) * length.div_ceil(u64::from(row.period)))
+        .sum()
+}
+
+/// The busy length, unless there is none up to the horizon.
+///
+/// `request` never falls as its argument grows, so the iteration from 1 cannot
+/// step over the least fixed point.
+pub fn busy_length(rows: &[Row]) -> Option<u64> {
+    let mut length = 1;
+    while length <= HORIZON {
+        let next = request(rows, length);
+        if next == length {
+            return Some(length);
+        }
+        length = next;
+    }
+    None
+}
+
+/// The busy length by its definition: the least r from 1 on that fits.
+pub fn busy_length_by_scan(rows: &[Row]) -> Option<u64> {
+    (1..=HORIZON).find(|length| request(rows, *length) == *length)
+}
+
+/// The last tick at which demand is compared.
+pub fn compared_range(rows: &[Row]) -> u64 {
+    busy_length(rows).unwrap_or(HORIZON)
+}
+
+/// The least tick up to `limit` whose demand exceeds it, and that demand.
+///
+/// Only the ticks at which demand grows are visited: between them the tick
+/// grows and the demand does not.
+pub fn first_overload(rows: &[Row], limit: u64) -> Option<(u64, u64)> {
+    let mut due: Vec<u64> = rows.iter().map(|row| u64::from(row.deadline)).collect();
+    let mut demand = 0;
+    loop {
+        let tick = *due.iter().min()?;
+        if tick > limit {
+            return None;
+        }
+        for (row, due) in rows.iter().zip(&mut due) {
+            if *due == tick {
+                demand += u64::from(row.run);
+                *due += u64::from(row.period);
+            }
+        }
+        if demand > tick {
+            return Some((tick, demand));
+        }
+    }
+}
+
+/// Every tick up to `limit` whose demand exceeds it, by trying each tick.
+pub fn overloads_by_scan(rows: &[Row], limit: u64) -> impl Iterator<Item = (u64, u64)> + '_ {
+    (1..=limit)
+        .map(|tick| (tick, demand(rows, tick)))
+        .filter(|(tick, demand)| demand > tick)
+}

@@ -1,0 +1,156 @@
+//! Random task tables of every kind.
+
+use crate::rng::Rng;
+use crate::table::{admit_rows, Row, HORIZON, ROW_LIMIT};
+
+/// Makes a table at random.
+pub type RowMaker = fn(&mut Rng) -> Vec<Row>;
+
+const LONGEST: u32 = HORIZON as u32;
+
+fn row(run: u32, period: u32, deadline: u32) -> Row {
+    Row {
+        run,
+        period,
+        deadline,
+    }
+}
+
+/// A relative deadline from `run` to `period`, often the period itself.
+fn random_deadline(rng: &mut Rng, run: u32, period: u32) -> u32 {
+    match rng.below(4) {
+        0 => rng.between(run, period),
+        1 => rng.between(period - (period - run) / 4, period),
+        _ => period,
+    }
+}
+
+/// Rows that leave the processor idle for at least about half the time.
+pub fn light_rows(rng: &mut Rng) -> Vec<Row> {
+    let count = rng.between(1, ROW_LIMIT as u32);
+    let longest = rng.pick(&[100, 1_000, 100_000, LONGEST]);
+    (0..count)
+        .map(|_| {
+            let period = rng.between(longest / 4, longest);
+            let run = rng.between(1, (period / (2 * count)).max(1));
+            let deadline = random_deadline(rng, run, period);
+            row(run, period, deadline)
+        })
+        .collect()
+}
+
+/// Few rows of small numbers, so that deadlines and arrivals often coincide.
+pub fn small_rows(rng: &mut Rng) -> Vec<Row> {
+    let count = rng.between(1, 5);
+    let longest = rng.between(4, 30);
+    (0..count)
+        .map(|_| {
+            let period = rng.between(longest / 3, longest).max(1);
+            let run = rng.between(1, (period / count).max(1));
+            let deadline = random_deadline(rng, run, period);
+            row(run, period, deadline)
+        })
+        .collect()
+}
+
+/// Rows whose utilisation is 1, or off it by one tick of one row.
+pub fn full_rows(rng: &mut Rng) -> Vec<Row> {
+    let periods = [4, 5, 6, 8, 10, 12, 15, 20, 24, 30, 40, 60, 120];
+    // 120 is a multiple of every period, so it counts in whole parts.
+    let mut parts_left = 120;
+    let mut rows = Vec::new();
+    while parts_left > 0 && rows.len() < ROW_LIMIT {
+        let period = rng.pick(&periods);
+        let most = parts_left * period / 120;
+        if most > 0 {
+            let run = rng.between(1, most);
+            parts_left -= run * 120 / period;
+            let deadline = if rng.chance(1, 8) {
+                rng.between(run, period)
+            } else {
+                period
+            };
+            rows.push(row(run, period, deadline));
+        }
+    }
+    if rng.chance(1, 3) {
+        let changed = rng.below(rows.len());
+        rows[changed].run = match rng.below(2) {
+            0 => (rows[changed].run - 1).max(1),
+            _ => (rows[changed].run + 1).min(rows[changed].deadline),
+        };
+    }
+    rows
+}
+
+/// One short row and one long one that together fill the processor: the busy
+/// length comes near the horizon or passes it.
+pub fn long_busy_rows(rng: &mut Rng) -> Vec<Row> {
+    let short = rng.between(2, 9);
+    let short_run = rng.between(1, short - 1);
+    let shortest_long = rng.pick(&[300_000, LONGEST - 1, LONGEST]);
+    let long = rng.between(shortest_long, LONGEST);
+    let rest = u64::from(long) * u64::from(short - short_run) / u64::from(short);
+    let long_run = (rest as u32 + rng.between(0, 2)).saturating_sub(1).max(1);
+    let mut rows = vec![row(short_run, short, short), row(long_run, long, long)];
+    if rng.chance(1, 3) {
+        rows.swap(0, 1);
+    }
+    rows
+}
+
+/// Rows with short deadlines, often refused although the utilisation is low.
+pub fn urgent_rows(rng: &mut Rng) -> Vec<Row> {
+    let count = rng.between(2, 6);
+    (0..count)
+        .map(|_| {
+            let period = rng.between(10, 60);
+            let run = rng.between(1, 4);
+            row(run, period, rng.between(run, 10))
+        })
+        .collect()
+}
+
+/// A table in which at least one row breaks the row rule.
+pub fn unlawful_rows(rng: &mut Rng) -> Vec<Row> {
+    let mut rows = small_rows(rng);
+    for _ in 0..rng.between(1, 2) {
+        let broken = rng.below(rows.len());
+        rows[broken] = rng.pick(&[
+            row(0, 5, 5),
+            row(0, 0, 0),
+            row(6, 5, 5),
+            row(3, 5, 2),
+            row(2, 5, 6),
+            row(1, 0, 1),
+            row(1, LONGEST + 1, 5),
+            row(1, LONGEST + 1, LONGEST + 1),
+            row(1, LONGEST, LONGEST + 1),
+            row(u32::MAX, u32::MAX, u32::MAX),
+            row(1, u32::MAX, 1),
+        ]);
+    }
+    rows
+}
+
+/// A table of any kind but those with a long busy length.
+pub fn any_rows(rng: &mut Rng) -> Vec<Row> {
+    let makers: [RowMaker; 5] = [
+        light_rows,
+        small_rows,
+        full_rows,
+        urgent_rows,
+        unlawful_rows,
+    ];
+    rng.pick(&makers)(rng)
+}
+
+/// Tables of one maker until one is admitted.
+pub fn admitted(rng: &mut Rng, make: RowMaker) -> Vec<Row> {
+    loop {
+        let rows = make(rng);
+        if admit_rows(&rows).is_ok() {
+            return rows;
+        }
+    }
+}

@@ -1,0 +1,144 @@
+//! Random lists of calls against the specification's ledger.
+
+use shuffle_model::driver::Driver;
+use shuffle_model::rng::Rng;
+use shuffle_model::runs::{random_command, Style};
+use shuffle_model::session::IDLE;
+use shuffle_model::table::Row;
+use shuffle_model::tables::{admitted, full_rows, light_rows, small_rows, RowMaker};
+use shuffle_model::text::{Command, Outcome};
+
+struct Entry {
+    row: usize,
+    arrival: u64,
+    run: u64,
+    end: Option<u64>,
+}
+
+/// Fed with calls and answers; looks into no session.
+struct Ledger {
+    rows: Vec<Row>,
+    clock: u64,
+    chosen: u32,
+    entries: Vec<Entry>,
+}
+
+impl Ledger {
+    fn new(rows: &[Row]) -> Self {
+        Ledger {
+            rows: rows.to_vec(),
+            clock: 0,
+            chosen: IDLE,
+            entries: Vec::new(),
+        }
+    }
+
+    fn latest(&mut self) -> Option<&mut Entry> {
+        let chosen = self.chosen as usize;
+        self.entries
+            .iter_mut()
+            .rev()
+            .find(|entry| entry.row == chosen)
+    }
+
+    /// Enters an accepted call and its two values.
+    fn enter(&mut self, command: Command, values: [u64; 2]) {
+        match command {
+            Command::Arrive(row) => self.entries.push(Entry {
+                row: row as usize,
+                arrival: self.clock,
+                run: 0,
+                end: None,
+            }),
+            Command::Choose => self.chosen = values[0] as u32,
+            Command::Advance(ticks) => self.advance(u64::from(ticks)),
+            Command::Finish => {
+                let clock = self.clock;
+                self.latest().expect("a finished job has an entry").end = Some(clock);
+            }
+            Command::Row(_) | Command::Word(_) => unreachable!("no call"),
+        }
+    }
+
+    fn advance(&mut self, ticks: u64) {
+        self.clock += ticks;
+        let clock = self.clock;
+        let longest_run = self.rows.get(self.chosen as usize).map(|row| row.run);
+        if let (Some(entry), Some(longest_run)) = (self.latest(), longest_run) {
+            entry.run += ticks;
+            if entry.run >= u64::from(longest_run) {
+                entry.end = Some(clock);
+            }
+        }
+    }
+
+    fn no_job_is_late(&self) -> bool {
+        self.entries.iter().all(|entry| {
+            let due = entry.arrival + u64::from(self.rows[entry.row].deadline);
+            match entry.end {
+                Some(end) => end <= due,
+                None => self.clock < due,
+            }
+        })
+    }
+}
+
+/// Runs random calls and checks ledger and session after each.
+fn check_run(rng: &mut Rng, rows: &[Row], steps: usize) {
+    let mut driver = Driver::new(rows);
+    let mut ledger = Ledger::new(rows);
+    let style = Style::random(rng);
+    for _ in 0..steps {
+        let command = random_command(&driver.machine, rng, style);
+        let before = driver.machine.session.clone();
+        if let Outcome::Answered(_, answer) = driver.push(command) {
+            if answer.number == 0 {
+                ledger.enter(command, answer.values);
+            } else {
+                assert_eq!(driver.machine.session, before, "{command:?}");
+            }
+        }
+        let text = String::from_utf8_lossy(&driver.text);
+        assert_eq!(driver.machine.session.clock, ledger.clock, "{text}");
+        assert!(driver.machine.session.is_sound(), "{text}");
+        assert!(ledger.no_job_is_late(), "{text}");
+    }
+}
+
+fn check_runs(make: RowMaker, runs: usize) {
+    let mut rng = Rng::new(5);
+    for _ in 0..runs {
+        let rows = admitted(&mut rng, make);
+        check_run(&mut rng, &rows, 200);
+    }
+}
+
+#[test]
+fn no_job_is_late_on_small_tables() {
+    check_runs(small_rows, 1_000);
+}
+
+#[test]
+fn no_job_is_late_at_full_load() {
+    check_runs(full_rows, 300);
+}
+
+#[test]
+fn no_job_is_late_on_light_tables() {
+    check_runs(light_rows, 100);
+}
+
+#[test]
+fn a_late_job_is_noticed() {
+    let mut ledger = Ledger::new(&[Row::from([2, 5, 4])]);
+    ledger.enter(Command::Arrive(0), [0, 4]);
+    ledger.advance(3);
+    assert!(ledger.no_job_is_late());
+    ledger.advance(1);
+    assert!(!ledger.no_job_is_late());
+    ledger.enter(Command::Choose, [0, 2]);
+    ledger.enter(Command::Finish, [0, 2]);
+    assert!(ledger.no_job_is_late());
+    ledger.entries[0].end = Some(5);
+    assert!(!ledger.no_job_is_late());
+}
