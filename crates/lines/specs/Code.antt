@@ -14,19 +14,20 @@ use Rattle.bounded.specs.Tests.{both}
 use Rattle.decimal.specs.declared.read.Number.{Number}
 use Rattle.decimal.specs.declared.read.Number.the-variants.{Of, None}
 use Rattle.decimal.specs.Number.{isDigit, allDigits, plain, digitsOf, numberOf}
+use Rattle.lines.specs.declared.read.Call.the-variants.{Arrive, Choose, Advance, Finish}
 use Rattle.lines.specs.declared.read.Line.{Line}
-use Rattle.lines.specs.declared.read.Line.the-variants.{Row, Word, Arrive, Choose, Advance, Finish, Unreadable}
+use Rattle.lines.specs.declared.read.Line.the-variants.{Row, Word, Call, Unreadable}
 use Rattle.lines.specs.Parted.{parted, onFirst, parted-none, parted-some, parted-not-none, Place, parted-whole, parted-at, tail-is}
 use Rattle.lines.specs.Line.{letterOf, bareOf, singleOf, tripleOf, given, givenThree, lineIn, lineOf}
 
 -- ---- a letter
 
 module _ (c : ℕ) where
-  pub bare-choose : c ≡ 71 → Choose ≡ bareOf c
+  pub bare-choose : c ≡ 71 → Call Choose ≡ bareOf c
   unfolding bareOf
   bare-choose e = simp (eq-eqb c 71 e)
 
-  pub bare-finish : (c ≡ 71 → ⊥) → c ≡ 70 → Finish ≡ bareOf c
+  pub bare-finish : (c ≡ 71 → ⊥) → c ≡ 70 → Call Finish ≡ bareOf c
   unfolding bareOf
   bare-finish n e = simp (ne-eqb c 71 n, eq-eqb c 70 e)
 
@@ -41,11 +42,11 @@ module _ (c n : ℕ) where
   unfolding singleOf
   single-word e = simp (eq-eqb c 87 e)
 
-  pub single-arrive : (c ≡ 87 → ⊥) → c ≡ 65 → Arrive n ≡ singleOf c n
+  pub single-arrive : (c ≡ 87 → ⊥) → c ≡ 65 → Call (Arrive n) ≡ singleOf c n
   unfolding singleOf
   single-arrive a e = simp (ne-eqb c 87 a, eq-eqb c 65 e)
 
-  pub single-advance : (c ≡ 87 → ⊥) → (c ≡ 65 → ⊥) → c ≡ 82 → Advance n ≡ singleOf c n
+  pub single-advance : (c ≡ 87 → ⊥) → (c ≡ 65 → ⊥) → c ≡ 82 → Call (Advance n) ≡ singleOf c n
   unfolding singleOf
   single-advance a b e = simp (ne-eqb c 87 a, ne-eqb c 65 b, eq-eqb c 82 e)
 

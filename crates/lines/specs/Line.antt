@@ -6,8 +6,9 @@ use lib.Dec.{eqb}
 use Rattle.decimal.specs.declared.read.Number.{Number}
 use Rattle.decimal.specs.declared.read.Number.the-variants.{Of, None}
 use Rattle.decimal.specs.Number.{numberOf}
+use Rattle.lines.specs.declared.read.Call.the-variants.{Arrive, Choose, Advance, Finish}
 use Rattle.lines.specs.declared.read.Line.{Line}
-use Rattle.lines.specs.declared.read.Line.the-variants.{Row, Word, Arrive, Choose, Advance, Finish, Unreadable}
+use Rattle.lines.specs.declared.read.Line.the-variants.{Row, Word, Call, Unreadable}
 use Rattle.lines.specs.Parted.{parted}
 
 -- the letter that a field is; 0 where it is not one byte
@@ -18,11 +19,11 @@ letterOf (c ∷ d ∷ l) = 0
 
 -- a letter alone: `G` or `F`
 unfoldable pub bareOf : ℕ → Line
-bareOf c = cond (eqb c 71) Choose (cond (eqb c 70) Finish Unreadable)
+bareOf c = cond (eqb c 71) (Call Choose) (cond (eqb c 70) (Call Finish) Unreadable)
 
 -- a letter and a number: `W`, `A` or `R`
 unfoldable pub singleOf : ℕ → ℕ → Line
-singleOf c n = cond (eqb c 87) (Word n) (cond (eqb c 65) (Arrive n) (cond (eqb c 82) (Advance n) Unreadable))
+singleOf c n = cond (eqb c 87) (Word n) (cond (eqb c 65) (Call (Arrive n)) (cond (eqb c 82) (Call (Advance n)) Unreadable))
 
 -- a letter and three numbers: `T`
 unfoldable pub tripleOf : ℕ → ℕ → ℕ → ℕ → Line

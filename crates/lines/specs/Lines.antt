@@ -10,8 +10,9 @@ use Rattle.bounded.specs.Tests.{both}
 use lib.ListN.{length, take, drop, length-drop}
 use lib.Seq.{drop-drop, drop-length, length-take-le}
 use Rattle.decimal.specs.Number.{plain, numberOf}
+use Rattle.lines.specs.declared.read.Call.the-variants.{Arrive, Choose, Advance, Finish}
 use Rattle.lines.specs.declared.read.Line.{Line}
-use Rattle.lines.specs.declared.read.Line.the-variants.{Row, Word, Arrive, Choose, Advance, Finish, Unreadable}
+use Rattle.lines.specs.declared.read.Line.the-variants.{Row, Word, Call, Unreadable}
 use Rattle.lines.specs.declared.read.Next.{Next}
 use Rattle.lines.specs.Parted.{parted, parted-not-none, Place, parted-whole, parted-at, tail-is}
 use Rattle.lines.specs.Line.{bareOf, lineOf}
@@ -35,19 +36,19 @@ linesOf l = linesIn (parted 10 l)
 abbrev pub leastSize : Line → ℕ
 leastSize (Row c t d) = 2
 leastSize (Word w) = 4
-leastSize (Arrive i) = 2
-leastSize Choose = 2
-leastSize (Advance n) = 2
-leastSize Finish = 2
+leastSize (Call (Arrive row)) = 4
+leastSize (Call Choose) = 2
+leastSize (Call (Advance n)) = 4
+leastSize (Call Finish) = 2
 leastSize Unreadable = 1
 
 size-four : (x : Line) → leastSize x ≤ 4
 size-four (Row c t d) = omega arith
 size-four (Word w) = omega arith
-size-four (Arrive i) = omega arith
-size-four Choose = omega arith
-size-four (Advance n) = omega arith
-size-four Finish = omega arith
+size-four (Call (Arrive row)) = omega arith
+size-four (Call Choose) = omega arith
+size-four (Call (Advance n)) = omega arith
+size-four (Call Finish) = omega arith
 size-four Unreadable = omega arith
 
 size-bare : (c : ℕ) → leastSize (bareOf c) ≤ 2

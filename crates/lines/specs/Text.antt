@@ -1,8 +1,9 @@
 -- The lines of the output (docs/SPECIFICATION.md §8.3). Assumes nothing.
 use Prim.Native.Nat.{ℕ, _+_, _≤_}
+use mathlib.Core.Path.{_≡_}
 use mathlib.Core.List.{List, [], _∷_, _++_}
 use native.Mathlib.Omega.{arith}
-use lib.ListN.{length}
+use lib.ListN.{length, length-append}
 use Rattle.decimal.specs.Decimal.{decimal}
 use Rattle.decimal.specs.Buffer.{Wrote, wrote-more}
 
@@ -36,3 +37,10 @@ module _ (clock letter number first : ℕ) (d : List ℕ) (at : ℕ) where
       → Wrote 21 (fieldText second 10) e f p q → Wrote 86 (lineText clock letter number first second) d f at q
   unfolding lineText
   line-is second e f p q l v w = wrote-more 65 21 (headText clock letter number first) (fieldText second 10) d e f at p q (omega (arith, v .short)) v w
+
+-- four tabs, a letter and a newline besides the numbers
+pub line-length : (clock letter number first second : ℕ)
+    → length (lineText clock letter number first second)
+    ≡ length (decimal clock) + length (decimal number) + length (decimal first) + length (decimal second) + 6
+unfolding lineText
+line-length clock letter number first second = simp length-append (omega arith)

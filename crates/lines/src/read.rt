@@ -10,6 +10,17 @@ ghost use Rattle.lines.specs.Lines.{Took};
 use decimal::read::Number;
 use decimal::read::read_number;
 
+pub enum Call {
+    // `A`: a job of this row arrives.
+    Arrive(u32),
+    // `G`: choose.
+    Choose,
+    // `R`: the clock rises by this.
+    Advance(u32),
+    // `F`: the chosen job is over.
+    Finish,
+}
+
 pub enum Line {
     // `T`: a row of the table, C, T and D.
     Row {
@@ -19,14 +30,7 @@ pub enum Line {
     },
     // `W`: a word for the queue.
     Word(u32),
-    // `A`: a job of this row arrives.
-    Arrive(u32),
-    // `G`: choose.
-    Choose,
-    // `R`: the clock rises by this.
-    Advance(u32),
-    // `F`: the chosen job is over.
-    Finish,
+    Call(Call),
     Unreadable,
 }
 
@@ -41,10 +45,10 @@ fn bare(c: u8) -> Line
     ensures { λ r. ⌜ r ≡ bareOf c ⌝ }
 {
     if c == 71 {
-        return Line::Choose;
+        return Line::Call(Call::Choose);
     }
     if c == 70 {
-        return Line::Finish;
+        return Line::Call(Call::Finish);
     }
     Line::Unreadable
 }
@@ -56,10 +60,10 @@ fn single(c: u8, n: u32) -> Line
         return Line::Word(n);
     }
     if c == 65 {
-        return Line::Arrive(n);
+        return Line::Call(Call::Arrive(n));
     }
     if c == 82 {
-        return Line::Advance(n);
+        return Line::Call(Call::Advance(n));
     }
     Line::Unreadable
 }

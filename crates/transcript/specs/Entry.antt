@@ -27,9 +27,9 @@ use Rattle.guarantee.specs.KeepsFresh.{good-fresh}
 use Rattle.transcript.specs.declared.step.Play.{Play}
 use Rattle.transcript.specs.declared.rows.Rows.{Rows}
 use Rattle.transcript.specs.Step.{callsText}
-use Rattle.transcript.specs.Transcript.{inputLimit, inputLines, rowLimit, rowsIn, afterRows, admissionText, printedOf, longest, Printed, Transcribed, tooShort, printed}
+use Rattle.transcript.specs.Transcript.{inputLimit, inputLines, rowLimit, rowsIn, afterRows, admissionText, printedOf, roomFor, Printed, Transcribed, tooShort, printed}
 use Rattle.transcript.specs.Table.{Stated}
-use Rattle.transcript.specs.Plays.{Begun, owed}
+use Rattle.transcript.specs.Plays.{roomOf, Begun, owed}
 
 -- ---- the table's answer, and its session
 
@@ -73,7 +73,7 @@ module _ (text : List ℕ) (t : Rows) (st : Stated text t) (ws : List ℕ) (e : 
     text-refused ne = rw (answer-is, ne-eqb (shownOf (a .assessment) .number) 0 (λ z. ne (sym number-is ∙ z))) (append-nil _)
 
     pub print-refused : (before after : List ℕ) (r : ℕ) → (n .number ≡ 0 → ⊥) → Wrote 1478 (admissionText (shownOf (a .assessment))) before after 0 r
-        → Printed l before after r
+        → Printed l before after (roomOf text) r
     print-refused before after r ne w = record {
       t = named;
       witness = witness;
@@ -85,14 +85,14 @@ module _ (text : List ℕ) (t : Rows) (st : Stated text t) (ws : List ℕ) (e : 
     module _ (z : n .number ≡ 0) (before middle : List ℕ) (end : ℕ) (w : Wrote 1478 (admissionText (shownOf (a .assessment))) before middle 0 end) where
       -- the calls start from the fresh session, with no words, at the line after the rows
       abbrev begin : Play
-      begin = record { session = a .session; from = 0; to = 0; line = t .count + 1; end = end; over = false }
+      begin = record { from = 0; to = 0; line = t .count + 1; end = end; over = false }
 
       good : Good ws (a .session)
       good =
           rw (ad .session)
           (good-fresh ws named (sym (ap (λ (x : Answer). x .number) (ad .answer .answer)) ∙ number-is ∙ z))
 
-      pub print-begun : length text ≤ inputLimit → longest ≤ length middle → Begun text (t .at) begin middle
+      pub print-begun : length text ≤ inputLimit → roomOf text ≤ length middle → Begun text (t .at) (a .session) begin middle
       print-begun h k = record {
         limit = h;
         place = st .within;
@@ -107,15 +107,15 @@ module _ (text : List ℕ) (t : Rows) (st : Stated text t) (ws : List ℕ) (e : 
       count-is : suc (length (rowsIn rowLimit l) / 3) ≡ t .count + 1
       count-is = omega (arith, ap length rows-are, rows-count)
 
-      text-calls : printedOf l named ≡ admissionText (shownOf (a .assessment)) ++ owed text begin [] (t .at)
+      text-calls : printedOf l named ≡ admissionText (shownOf (a .assessment)) ++ owed text (a .session) begin [] (t .at)
       unfolding printedOf
       text-calls =
           rw (answer-is, eq-eqb (shownOf (a .assessment) .number) 0 (number-is ∙ z), count-is, st .rest, rows-are, ad .session)
 
-      pub print-calls : (after : List ℕ) (r : ℕ) → longest ≤ length before → Wrote (longest - end) (owed text begin [] (t .at)) middle after end r
-          → Printed l before after r
+      pub print-calls : (after : List ℕ) (r : ℕ) → roomOf text ≤ length before → Wrote (roomOf text - end) (owed text (a .session) begin [] (t .at)) middle after end r
+          → Printed l before after (roomOf text) r
       print-calls after r k v =
-          let x = wrote-more 1478 (longest - end) (admissionText (shownOf (a .assessment))) (owed text begin [] (t .at)) before middle after 0 end r
+          let x = wrote-more 1478 (roomOf text - end) (admissionText (shownOf (a .assessment))) (owed text (a .session) begin [] (t .at)) before middle after 0 end r
           (omega (arith, w .short)) w v in
           record {
             t = named;
@@ -129,8 +129,8 @@ pub ruleset print-laws = (second-is, print-refused, print-begun, print-calls)
 
 -- ---- the entry point
 
-pub entry-short : (input before : List ℕ) → length before < longest → Transcribed input before before 0
-entry-short input before h = tooShort h refl refl
+pub entry-short : (input before : List ℕ) (k : ℕ) → k ≡ roomFor (length input) → length before < k → Transcribed input before before 0
+entry-short input before k e h = tooShort (omega arith) refl refl
 
 limit-is : (input : List ℕ) (n : ℕ) → n ≡ min (length input) inputLimit → take n input ≡ take inputLimit input
 limit-is input n e =
@@ -138,13 +138,30 @@ limit-is input n e =
     (λ h. take-all n input (omega arith) ∙ sym (take-all inputLimit input h))
     (λ h. let k : n ≡ inputLimit = omega arith in ap (λ (m : ℕ). take m input) k)
 
-pub entry-printed : (input text before after : List ℕ) (n r : ℕ) → longest ≤ length before → n ≡ min (length input) inputLimit → text ≡ take n input
-    → Printed (linesOf text) before after r → Transcribed input before after r
-unfolding inputLines
-entry-printed input text before after n r h e f p =
-    printed h (subst (λ (x : List ℕ). Printed (linesOf x) before after r) (f ∙ limit-is input n e) p)
+-- the room for what is read of the input
+room-is : (input text : List ℕ) (n : ℕ) → n ≡ min (length input) inputLimit → text ≡ take n input → roomOf text ≡ roomFor (length input)
+unfolding roomFor
+room-is input text n e f = let k = ap length f ∙ length-take-le n input (omega arith) in omega arith
 
-pub ruleset entry-cases = (entry-short, entry-printed)
+pub print-limit : (input : List ℕ) (n : ℕ) → n ≡ min (length input) inputLimit → length (take n input) ≤ inputLimit
+print-limit input n e = omega (arith, length-take-le n input (omega arith))
+
+pub print-room : (input before : List ℕ) (k n : ℕ) → k ≡ roomFor (length input) → k ≤ length before → n ≡ min (length input) inputLimit
+    → 1564 + 22 * length (take n input) ≤ length before
+print-room input before k n d h e = omega (arith, room-is input (take n input) n e refl)
+
+pub entry-printed : (input text before after : List ℕ) (k n r : ℕ) → k ≡ roomFor (length input) → k ≤ length before → n ≡ min (length input) inputLimit
+    → text ≡ take n input → Printed (linesOf text) before after (roomOf text) r → Transcribed input before after r
+unfolding inputLines
+entry-printed input text before after k n r d h e f p =
+    let most : roomOf text ≡ roomFor (length input) = room-is input text n e f in
+    printed (omega arith) (subst (λ (x : List ℕ). Printed (linesOf x) before after (roomFor (length input)) r) (f ∙ limit-is input n e) (rw most at p))
+
+pub room-of-least : (n k : ℕ) → k ≡ min n inputLimit → 1564 + 22 * k ≡ roomFor n
+unfolding roomFor
+room-of-least n k e = omega arith
+
+pub ruleset entry-cases = (entry-short, print-limit, print-room, entry-printed)
 
 -- for a caller who takes the text out of the buffer
 pub written-within : (input before after : List ℕ) (r : ℕ) → Transcribed input before after r → r ≤ length after

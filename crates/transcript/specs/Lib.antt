@@ -3,5 +3,6 @@ pub mod Play
 pub mod Transcript
 pub mod Table
 pub mod Admission
+pub mod Short
 pub mod Plays
 pub mod Entry

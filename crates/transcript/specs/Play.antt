@@ -1,30 +1,31 @@
 -- What the code of one line keeps, and its cases. Assumes nothing.
 use Prim.Native.Nat.{ℕ, zero, suc, _+_, _-_, _≤_, _<_, _^_}
 use mathlib.Core.Path.{_≡_, refl, sym, ap, _∙_}
-use mathlib.Core.Bool.{true, false, not, _&&_, true≢false}
+use mathlib.Core.Bool.{Bool, true, false, not, _&&_, _||_, cond, true≢false}
 use mathlib.Core.List.{List, [], _∷_, _++_}
 use native.Mathlib.Numerals.{add-one}
 use native.Mathlib.Omega.{arith}
-use lib.Dec.{leb, ltb}
+use lib.Dec.{leb, ltb, eqb}
 use lib.ListN.{length, take, drop, set, length-set}
 use lib.Seq.{take-nil, drop-drop, drop-append-le, length-slice, length-take-le, take-suc-set}
 use borrow.Author.Tests.{lt-ltb, le-ltb, ltb-true}
-use mir.Syntax.{w64}
-use mir.Val.{Fits}
-use Rattle.bounded.specs.Tests.{both, and-true, gate, gate-on, gate-off}
+use Rattle.bounded.specs.Tests.{both, and-true, gate-on, gate-off}
 use Rattle.decimal.specs.Buffer.{Wrote, overlay-none}
-use Rattle.lines.specs.declared.read.Line.{Line}
-use Rattle.lines.specs.declared.read.Line.the-variants.{Row, Word, Arrive, Choose, Advance, Finish, Unreadable}
+use Rattle.lines.specs.declared.read.Call.{Call}
+use Rattle.lines.specs.declared.read.Call.the-variants.{Arrive, Choose, Advance, Finish}
+use Rattle.lines.specs.declared.read.Line.the-variants.{Row, Word, Call as CallLine, Unreadable}
 use Rattle.lines.specs.Text.{lineText}
 use Rattle.session.specs.declared.Session.{Session}
+use Rattle.session.specs.declared.Answer.{Answer}
 use Rattle.session.specs.declared.Outcome.{Outcome}
 use Rattle.session.specs.declared.Numbers.{Numbers}
+use Rattle.session.specs.Reading.{idle, clockEnd, jobAt}
 use Rattle.session.specs.Sound.{sound}
 use Rattle.session.specs.Order.{headOf, candidates}
 use Rattle.session.specs.Choose.{drawn, unopposed, lengthDrawn, pickOf, pickUsed, usedOf}
 use Rattle.session.specs.Calls.{Shows, shown, arriveIn, arriveOf, chooseIn, chooseOf, advanceIn, advanceOf, finishIn, finishOf}
 use Rattle.transcript.specs.declared.step.Play.{Play}
-use Rattle.transcript.specs.Step.{Step, queueLimit, told, unread, stepOf}
+use Rattle.transcript.specs.Step.{Step, queueLimit, letterOf, callOf, answerText, told, unread, queued, stepOf}
 
 -- the words that wait, among all words queued so far
 abbrev pub queueOf : List ℕ → Play → List ℕ
@@ -36,47 +37,30 @@ pub record Room (p : Play) (out : List ℕ) : Type 0 where
   pub count : p .line < 2 ^ 32
 
 pub record Ready (p : Play) (words out : List ℕ) : Type 0 where
-  pub sound : sound (p .session) ≡ true
   pub order : p .from ≤ p .to
   pub within : p .to ≤ length words
   pub room : p .end + 86 ≤ length out
   pub count : p .line < 2 ^ 32
 
--- how many words a line queues
-abbrev pub wordsIn : Line → ℕ
-wordsIn (Row c t d) = 0
-wordsIn (Word w) = 1
-wordsIn (Arrive row) = 0
-wordsIn Choose = 0
-wordsIn (Advance n) = 0
-wordsIn Finish = 0
-wordsIn Unreadable = 0
-
--- there is a place for them
-abbrev pub Holds : Line → Play → List ℕ → Type 0
-Holds x p words = p .to + wordsIn x ≤ length words
-
--- an answer was printed
-pub record Told (letter : ℕ) (o : Outcome) (p r : Play) (before after : List ℕ) : Type 0 where
-  pub wrote : Wrote 86 (told letter [] o .text) before after (p .end) (r .end)
-  pub session : r .session ≡ o .session
-  pub from : r .from ≡ p .from
+-- a text was printed, of a call that used so many words
+pub record Told (text : List ℕ) (used : ℕ) (p r : Play) (before after : List ℕ) : Type 0 where
+  pub wrote : Wrote 86 text before after (p .end) (r .end)
+  pub from : r .from ≡ p .from + used
   pub to : r .to ≡ p .to
   pub line : r .line ≡ p .line + 1
   pub over : r .over ≡ false
 
 -- it was printed that the line is unreadable
-pub record Unread (p r : Play) (before after : List ℕ) : Type 0 where
-  pub wrote : Wrote 86 (unread (p .session) [] (p .line) .text) before after (p .end) (r .end)
-  pub session : r .session ≡ p .session
+pub record Unread (clock : ℕ) (p r : Play) (before after : List ℕ) : Type 0 where
+  pub wrote : Wrote 86 (lineText clock 63 13 (p .line) 0) before after (p .end) (r .end)
   pub from : r .from ≡ p .from
   pub to : r .to ≡ p .to
   pub over : r .over ≡ true
 
--- r is what the step x, of a line that queues k words, leads to from p, with the words v in place of w
-pub record Did (k : ℕ) (x : Step) (p r : Play) (w v before after : List ℕ) : Type 0 where
+-- the session s and r are what the step x, of a line that queues k words, leads to from p, with the words v in place of w
+pub record Did (k : ℕ) (x : Step) (s : Session) (p r : Play) (w v before after : List ℕ) : Type 0 where
   pub wrote : Wrote 86 (x .text) before after (p .end) (r .end)
-  pub session : r .session ≡ x .session
+  pub session : s ≡ x .session
   pub queue : queueOf v r ≡ x .queue
   pub order : r .from ≤ r .to
   pub most : r .to ≤ p .to + k
@@ -84,16 +68,24 @@ pub record Did (k : ℕ) (x : Step) (p r : Play) (w v before after : List ℕ) :
   pub line : r .over ≡ false → r .line ≡ p .line + 1
   pub words : length v ≡ length w
 
+-- a word's line, with any session that shows this clock
+pub record Queued (clock w : ℕ) (p r : Play) (words words′ before after : List ℕ) : Type 0 where
+  pub did : (s : Session) → s .clock ≡ clock → Did 1 (stepOf s (queueOf words p) (p .line) (Word w)) s p r words words′ before after
+
 -- ---- printing
 
-pub told-is : (letter : ℕ) (o : Outcome) (n : Numbers) (d e : List ℕ) (at q : ℕ) → Shows (shown (o .answer)) n
-    → Wrote 86 (lineText (o .session .clock) letter (n .number) (n .first) (n .second)) d e at q → Wrote 86 (told letter [] o .text) d e at q
-told-is letter o n d e at q s w = rw (s .number, s .first, s .second) at w
+pub told-is : (clock letter : ℕ) (a : Answer) (n : Numbers) (d e : List ℕ) (at q : ℕ) → Shows (shown a) n
+    → Wrote 86 (lineText clock letter (n .number) (n .first) (n .second)) d e at q → Wrote 86 (answerText clock letter a) d e at q
+unfolding answerText
+told-is clock letter a n d e at q s w = rw (s .number, s .first, s .second) at w
+
+wrote-none : (d : List ℕ) (at : ℕ) → Wrote 86 [] d d at at
+wrote-none d at = record { buffer = sym (overlay-none d at); place = omega arith; short = omega arith }
 
 -- ---- the words that wait
 
 module _ (w : List ℕ) (p : Play) (order : p .from ≤ p .to) (within : p .to ≤ length w) where
-  pub queue-length : length (queueOf w p) ≡ p .to - p .from
+  queue-length : length (queueOf w p) ≡ p .to - p .from
   queue-length = length-slice (p .from) (p .to) w within
 
   -- a word more
@@ -111,90 +103,73 @@ part-is (suc f) (suc t) (x ∷ l) = let e : suc t - suc f ≡ t - f = omega arit
 
 -- ---- unreadable lines
 
-wrote-none : (d : List ℕ) (at : ℕ) → Wrote 86 [] d d at at
-wrote-none d at = record { buffer = sym (overlay-none d at); place = omega arith; short = omega arith }
-
-module _ (p r : Play) (words before after : List ℕ) (ready : Ready p words before) where
-  queue-same : (r .from ≡ p .from) → (r .to ≡ p .to) → queueOf words r ≡ queueOf words p
-  queue-same e f = rw (e, f)
-
-  did-unread : (k : ℕ) → Unread p r before after → Did k (unread (p .session) (queueOf words p) (p .line)) p r words words before after
-  did-unread k u = record {
+module _ (p r : Play) (words before after : List ℕ) (order : p .from ≤ p .to) (s : Session) (u : Unread (s .clock) p r before after) where
+  pub did-unread : (k : ℕ) → Did k (unread s (queueOf words p) (p .line)) s p r words words before after
+  did-unread k = record {
     wrote = u .wrote;
-    session = u .session;
-    queue = queue-same (u .from) (u .to);
-    order = omega (arith, ready .order, u .from, u .to);
+    session = refl;
+    queue = rw (u .from, u .to);
+    order = omega (arith, u .from, u .to);
     most = omega (arith, u .to);
     over = u .over;
     line = λ z. absurd (true≢false (sym (u .over) ∙ z));
     words = refl;
   }
 
-  did-told : (k letter : ℕ) (o v : Outcome) → Told letter o p r before after → o ≡ v
-      → Did k (told letter (queueOf words p) v) p r words words before after
-  did-told k letter o v t e = rw (← e) record {
-    wrote = t .wrote;
-    session = t .session;
-    queue = queue-same (t .from) (t .to);
-    order = omega (arith, ready .order, t .from, t .to);
-    most = omega (arith, t .to);
-    over = t .over;
-    line = λ z. t .line;
-    words = refl;
-  }
-
 -- ---- words
 
-module _ (p : Play) (w : ℕ) (words before : List ℕ) (ready : Ready p words before) where
+module _ (clock : ℕ) (p : Play) (w : ℕ) (words before : List ℕ) (ready : Ready p words before) where
   pub word-queued : p .to < length words → p .to - p .from < 1024
-      → Did 1 (stepOf (p .session) (queueOf words p) (p .line) (Word w)) p
-      (record { session = p .session; from = p .from; to = p .to + 1; line = p .line + 1; end = p .end; over = false })
+      → Queued clock w p (record { from = p .from; to = p .to + 1; line = p .line + 1; end = p .end; over = false })
       words (set words (p .to) w) before before
   unfolding stepOf
   word-queued h k =
-      let f : ltb (length (queueOf words p)) queueLimit ≡ true = lt-ltb (length (queueOf words p)) queueLimit (omega (arith, queue-length words p (ready .order) (ready .within))) in
-      rw f record {
-        wrote = wrote-none before (p .end);
-        session = refl;
-        queue = queue-push words p (ready .order) (ready .within) w h;
-        order = omega (arith, ready .order);
-        most = omega arith;
-        over = refl;
-        line = λ z. refl;
-        words = length-set words (p .to) w;
+      let f : ltb (length (queueOf words p)) queueLimit ≡ true =
+      lt-ltb (length (queueOf words p)) queueLimit (omega (arith, queue-length words p (ready .order) (ready .within))) in
+      record {
+        did = λ s e.
+            rw f record {
+              wrote = wrote-none before (p .end);
+              session = refl;
+              queue = queue-push words p (ready .order) (ready .within) w h;
+              order = omega (arith, ready .order);
+              most = omega arith;
+              over = refl;
+              line = λ z. refl;
+              words = length-set words (p .to) w;
+            };
       }
 
-  pub word-full : (r : Play) (after : List ℕ) → 1024 ≤ p .to - p .from → Unread p r before after
-      → Did 1 (stepOf (p .session) (queueOf words p) (p .line) (Word w)) p r words words before after
+  pub word-full : (r : Play) (after : List ℕ) → 1024 ≤ p .to - p .from → Unread clock p r before after
+      → Queued clock w p r words words before after
   unfolding stepOf
   word-full r after k u =
-      let f : ltb (length (queueOf words p)) queueLimit ≡ false = le-ltb (length (queueOf words p)) queueLimit (omega (arith, queue-length words p (ready .order) (ready .within))) in
-      rw f (did-unread p r words before after ready _ u)
-
--- there is a place for the word
-pub word-place : (x : Line) (w : ℕ) (p : Play) (words : List ℕ) → Holds x p words → x ≡ Word w → p .to < length words
-word-place x w p words h e = omega (arith, h, ap wordsIn e)
+      let f : ltb (length (queueOf words p)) queueLimit ≡ false =
+      le-ltb (length (queueOf words p)) queueLimit (omega (arith, queue-length words p (ready .order) (ready .within))) in
+      record { did = λ s e. rw f (did-unread p r words before after (ready .order) s (rw e u) 1) }
 
 pub ruleset word-cases = (word-queued, word-full)
 
 -- ---- the calls
 
-module _ (s : Session) (h : sound s ≡ true) where
-  arrive-in : (row : ℕ) → arriveIn s row ≡ arriveOf s row
-  unfolding arriveOf
-  arrive-in row = simp h
+module _ (s : Session) (c : Call) (q : List ℕ) (h : sound s ≡ true) (o : Outcome) where
+  pub call-arrive : (row k : ℕ) → c ≡ Arrive row → k ≡ row → o ≡ arriveIn s k → o ≡ callOf s q c
+  unfolding callOf arriveOf
+  call-arrive row k e f g = g ∙ rw (e, ← f) (sym (simp h))
 
-  choose-in : (l : List ℕ) → chooseIn s l ≡ chooseOf s l
-  unfolding chooseOf
-  choose-in l = simp h
+  pub call-choose : c ≡ Choose → o ≡ chooseIn s q → o ≡ callOf s q c
+  unfolding callOf chooseOf
+  call-choose e g = g ∙ rw e (sym (simp h))
 
-  advance-in : (n : ℕ) → advanceIn s n ≡ advanceOf s n
-  unfolding advanceOf
-  advance-in n = simp h
+  pub call-advance : (n k : ℕ) → c ≡ Advance n → k ≡ n → o ≡ advanceIn s k → o ≡ callOf s q c
+  unfolding callOf advanceOf
+  call-advance n k e f g = g ∙ rw (e, ← f) (sym (simp h))
 
-  finish-in : finishIn s ≡ finishOf s
-  unfolding finishOf
-  finish-in = simp h
+  pub call-finish : c ≡ Finish → o ≡ finishIn s → o ≡ callOf s q c
+  unfolding callOf finishOf
+  call-finish e g = g ∙ rw e (sym (simp h))
+
+pub ruleset call-cases = (call-arrive, call-choose, call-advance, call-finish)
 
 -- a choice uses no more words than there are
 drawn-some : (s : Session) (l : List ℕ) → drawn s l ≡ true → 0 < length l
@@ -219,64 +194,48 @@ used-within s l =
     both b (λ e. omega (arith, span-some s l (pickUsed s l) (pickOf s l) e, gate-on b 1 e))
     (λ e. omega (arith, pick-used s l, gate-off b 1 e))
 
-choose-used : (s : Session) (l : List ℕ) → chooseIn s l .used ≤ length l
-unfolding chooseIn
-choose-used s l = both (ltb 0 (s .span)) (λ e. simp e (omega arith)) (λ e. simp e (used-within s l))
+none-used : (b : Bool) (x y : Outcome) → x .used ≡ 0 → y .used ≡ 0 → cond b x y .used ≡ 0
+none-used true x y e f = e
+none-used false x y e f = f
 
-pub used-fits : (p : Play) (words out l : List ℕ) (o : Outcome) → Ready p words out → l ≡ queueOf words p → o ≡ chooseIn (p .session) l → Fits w64 (p .to)
-    → Fits w64 (p .from + o .used)
-used-fits p words out l o ready e f g = record {
-  fits =
-      omega (arith, g .fits, ready .order, ap length e, queue-length words p (ready .order) (ready .within), choose-used (p .session) l, ap (λ (z : Outcome). z .used) f);
-}
+-- no more words are used than there are; only a choice uses any
+call-used : (s : Session) (q : List ℕ) (c : Call) → callOf s q c .used ≤ length q
+unfolding callOf arriveOf arriveIn chooseOf chooseIn advanceOf advanceIn finishOf finishIn
+call-used s q (Arrive row) =
+    let z : arriveOf s row .used ≡ 0 =
+    none-used (sound s) _ _ (none-used (leb (s .count) row) _ _ refl (none-used (ltb (s .clock) (jobAt s row .next)) _ _ refl refl)) refl in
+    omega (arith, z)
+call-used s q Choose =
+    both (sound s) (λ h. both (ltb 0 (s .span)) (λ e. simp (h, e) (omega arith)) (λ e. simp (h, e) (used-within s q))) (λ h. simp h (omega arith))
+call-used s q (Advance n) =
+    let z : advanceOf s n .used ≡ 0 =
+    none-used (sound s) _ _
+    (none-used (eqb (s .span) 0) _ _ refl
+    (none-used (eqb n 0 || ltb (s .span) n) _ _ refl (none-used (ltb clockEnd (s .clock + n)) _ _ refl refl)))
+    refl in
+    omega (arith, z)
+call-used s q Finish =
+    let z : finishOf s .used ≡ 0 =
+    none-used (sound s) _ _ (none-used (eqb (s .span) 0) _ _ refl (none-used (eqb (s .chosen) idle) _ _ refl refl)) refl in
+    omega (arith, z)
 
-module _ (p r : Play) (o : Outcome) (words before after : List ℕ) (ready : Ready p words before) where
-  pub choose-did : (l : List ℕ) → l ≡ queueOf words p → o ≡ chooseIn (p .session) l
-      → Told 71 o (record { session = p .session; from = p .from + o .used; to = p .to; line = p .line; end = p .end; over = p .over }) r before after
-      → Did 0 (stepOf (p .session) (queueOf words p) (p .line) Choose) p r words words before after
+module _ (s : Session) (c : Call) (p : Play) (l words before : List ℕ) (ready : Ready p words before) (e : l ≡ queueOf words p) (o : Outcome)
+    (f : o ≡ callOf s l c) where
+  pub used-order : p .from + o .used ≤ p .to
+  used-order =
+      omega (arith, ready .order, ap length e, queue-length words p (ready .order) (ready .within), call-used s l c, ap (λ (z : Outcome). z .used) f)
+
+  pub did-call : (letter : ℕ) (r : Play) (after : List ℕ) → letter ≡ letterOf c → Told (answerText (o .session .clock) letter (o .answer)) (o .used) p r before after
+      → Did 0 (stepOf s (queueOf words p) (p .line) (CallLine c)) (o .session) p r words words before after
   unfolding stepOf
-  choose-did l e f t = rw (← choose-in (p .session) (ready .sound) (queueOf words p), ← e, ← f) record {
-    wrote = t .wrote;
-    session = t .session;
-    queue = rw (t .from, t .to) (sym (drop-drop (o .used) (p .from) (take (p .to) words))) ∙ ap (drop (o .used)) (sym e);
-    order =
-        omega (arith, ready .order, t .from, t .to, ap length e, queue-length words p (ready .order) (ready .within), choose-used (p .session) l, ap (λ (z : Outcome). z .used) f);
-    most = omega (arith, t .to);
-    over = t .over;
-    line = λ z. t .line;
-    words = refl;
-  }
-
-  module _ (x : Line) where
-    pub arrive-did : (row k : ℕ) → x ≡ Arrive row → k ≡ row → o ≡ arriveIn (p .session) k → Told 65 o p r before after
-        → Did (wordsIn x) (stepOf (p .session) (queueOf words p) (p .line) x) p r words words before after
-    unfolding stepOf
-    arrive-did row k e f h t = rw (e, ← f) (did-told p r words before after ready 0 65 o _ t (h ∙ arrive-in (p .session) (ready .sound) k))
-
-    pub advance-did : (n k : ℕ) → x ≡ Advance n → k ≡ n → o ≡ advanceIn (p .session) k → Told 82 o p r before after
-        → Did (wordsIn x) (stepOf (p .session) (queueOf words p) (p .line) x) p r words words before after
-    unfolding stepOf
-    advance-did n k e f h t = rw (e, ← f) (did-told p r words before after ready 0 82 o _ t (h ∙ advance-in (p .session) (ready .sound) k))
-
-    pub finish-did : x ≡ Finish → o ≡ finishIn (p .session) → Told 70 o p r before after
-        → Did (wordsIn x) (stepOf (p .session) (queueOf words p) (p .line) x) p r words words before after
-    unfolding stepOf
-    finish-did e h t = rw e (did-told p r words before after ready 0 70 o _ t (h ∙ finish-in (p .session) (ready .sound)))
-
-module _ (p r : Play) (x : Line) (words before after : List ℕ) where
-  pub row-did : (c t d : ℕ) → x ≡ Row c t d → Ready p words before → Unread p r before after
-      → Did (wordsIn x) (stepOf (p .session) (queueOf words p) (p .line) x) p r words words before after
-  unfolding stepOf
-  row-did c t d e ready u = rw e (did-unread p r words before after ready _ u)
-
-  pub unreadable-did : x ≡ Unreadable → Ready p words before → Unread p r before after
-      → Did (wordsIn x) (stepOf (p .session) (queueOf words p) (p .line) x) p r words words before after
-  unfolding stepOf
-  unreadable-did e ready u = rw e (did-unread p r words before after ready _ u)
-
-  -- the line of a function that was called for it
-  pub line-did : (y : Line) (v : List ℕ) → x ≡ y → Did (wordsIn y) (stepOf (p .session) (queueOf words p) (p .line) y) p r words v before after
-      → Did (wordsIn x) (stepOf (p .session) (queueOf words p) (p .line) x) p r words v before after
-  line-did y v e d = rw e d
-
-pub ruleset step-cases = (arrive-did, advance-did, finish-did, row-did, unreadable-did, line-did)
+  did-call letter r after g t =
+      rw (← e, ← f, ← g) record {
+        wrote = t .wrote;
+        session = refl;
+        queue = rw (t .from, t .to) (sym (drop-drop (o .used) (p .from) (take (p .to) words))) ∙ ap (drop (o .used)) (sym e);
+        order = omega (arith, used-order, t .from, t .to);
+        most = omega (arith, t .to);
+        over = t .over;
+        line = λ z. t .line;
+        words = refl;
+      }

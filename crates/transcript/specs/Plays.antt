@@ -1,204 +1,222 @@
 -- The loop over the lines after the table. Assumes nothing.
-use Prim.Native.Nat.{ℕ, _+_, _-_, _*_, _≤_, _<_, _^_}
-use mathlib.Core.Path.{_≡_, refl, sym, ap, subst, _∙_}
-use mathlib.Core.Bool.{true, false, cond, true≢false}
+use Prim.Native.Nat.{ℕ, _+_, _-_, _*_, _≤_, _<_}
+use mathlib.Core.Path.{_≡_, refl, sym, ap, _∙_}
+use mathlib.Core.Bool.{true, false, true≢false}
 use mathlib.Core.List.{List, [], _∷_, _++_, append-nil}
 use native.Mathlib.Numerals.{add-one}
 use native.Mathlib.Omega.{arith}
 use lib.Dec.{ltb}
 use lib.ListN.{length, drop, length-append}
-use lib.Seq.{drop-length}
 use Rattle.bounded.specs.Tests.{both}
 use Rattle.decimal.specs.Buffer.{Wrote, overlay, overlay-none, overlay-more, wrote-length}
+use Rattle.lines.specs.declared.read.Call.{Call}
+use Rattle.lines.specs.declared.read.Call.the-variants.{Arrive, Choose, Advance, Finish}
 use Rattle.lines.specs.declared.read.Line.{Line}
-use Rattle.lines.specs.declared.read.Line.the-variants.{Row, Word, Arrive, Choose, Advance, Finish, Unreadable}
+use Rattle.lines.specs.declared.read.Line.the-variants.{Row, Word, Call as CallLine, Unreadable}
 use Rattle.lines.specs.declared.read.Next.{Next}
 use Rattle.lines.specs.Lines.{linesOf, lines-end, leastSize, Took}
 use Rattle.session.specs.declared.Session.{Session}
-use Rattle.session.specs.Reading.{rowsOf}
-use Rattle.guarantee.specs.Ledger.{Call, arrive, choose, advance, finish}
-use Rattle.guarantee.specs.Statement.{outcomeOf}
-use Rattle.guarantee.specs.Good.{Good}
-use Rattle.guarantee.specs.Keeps.{good-call}
+use Rattle.session.specs.declared.Outcome.{Outcome}
 use Rattle.transcript.specs.declared.step.Play.{Play}
-use Rattle.transcript.specs.Step.{queueLimit, stepOf, callsText}
-use Rattle.transcript.specs.Play.{queueOf, wordsIn, Holds, Ready, Did}
-use Rattle.transcript.specs.Transcript.{longest}
+use Rattle.transcript.specs.Step.{queueLimit, letterOf, callOf, answerText, stepOf, callsText}
+use Rattle.transcript.specs.Play.{queueOf, Room, Ready, Told, Unread, Queued, Did, did-unread, used-order, did-call}
+use Rattle.transcript.specs.Short.{Kept, kept-call, open-short}
 
 -- ---- what a step keeps
-
--- a session that a list of calls from a fresh one leads to, with the table being its own rows
-abbrev pub Kept : Session → Type 0
-Kept s = Good (rowsOf s) s
-
-kept-call : (s : Session) → Kept s → (c : Call) → Kept (outcomeOf s c .session)
-kept-call s g c =
-    let h : Good (rowsOf s) (outcomeOf s c .session) = good-call (rowsOf s) s g c in
-    subst (λ (l : List ℕ). Good l (outcomeOf s c .session)) (sym (h .rows)) h
 
 kept-step : (s : Session) (q : List ℕ) (n : ℕ) (x : Line) → Kept s → Kept (stepOf s q n x .session)
 unfolding stepOf
 kept-step s q n (Row c t d) g = g
 kept-step s q n (Word w) g = both (ltb (length q) queueLimit) (λ e. rw e g) (λ e. rw e g)
-kept-step s q n (Arrive row) g = kept-call s g (arrive row)
-kept-step s q n Choose g = kept-call s g (choose q)
-kept-step s q n (Advance k) g = kept-call s g (advance k)
-kept-step s q n Finish g = kept-call s g finish
+kept-step s q n (CallLine c) g = kept-call s g q c
 kept-step s q n Unreadable g = g
 
--- a word takes four bytes
+-- how many words a line queues; each takes four bytes
+abbrev pub wordsIn : Line → ℕ
+wordsIn (Row c t d) = 0
+wordsIn (Word w) = 1
+wordsIn (CallLine c) = 0
+wordsIn Unreadable = 0
+
 words-size : (x : Line) → 4 * wordsIn x ≤ leastSize x
 words-size (Row c t d) = omega arith
 words-size (Word w) = omega arith
-words-size (Arrive row) = omega arith
-words-size Choose = omega arith
-words-size (Advance n) = omega arith
-words-size Finish = omega arith
+words-size (CallLine c) = omega arith
 words-size Unreadable = omega arith
-
--- a line that does not end the output takes two at least
-open-size : (s : Session) (q : List ℕ) (n : ℕ) (x : Line) → stepOf s q n x .ends ≡ false → 2 ≤ leastSize x
-unfolding stepOf
-open-size s q n (Row c t d) e = omega arith
-open-size s q n (Word w) e = omega arith
-open-size s q n (Arrive row) e = omega arith
-open-size s q n Choose e = omega arith
-open-size s q n (Advance k) e = omega arith
-open-size s q n Finish e = omega arith
-open-size s q n Unreadable e = absurd (true≢false e)
 
 some-size : (x : Line) → 1 ≤ leastSize x
 some-size (Row c t d) = omega arith
 some-size (Word w) = omega arith
-some-size (Arrive row) = omega arith
-some-size Choose = omega arith
-some-size (Advance n) = omega arith
-some-size Finish = omega arith
+some-size (CallLine (Arrive row)) = omega arith
+some-size (CallLine Choose) = omega arith
+some-size (CallLine (Advance n)) = omega arith
+some-size (CallLine Finish) = omega arith
 some-size Unreadable = omega arith
 
 -- ---- the loop
 
-pub play-less : (text : List ℕ) (at : ℕ) (n : Next) → at < length text → Took text at n → length text - n .at < length text - at
-play-less text at n h t = omega (arith, t .size, t .within, some-size (n .line))
+-- room for the text of all lines of an input, with 1,478 bytes for what is printed of the table and 86 for a last line `?`
+abbrev pub roomOf : List ℕ → ℕ
+roomOf text = 1564 + 22 * length text
 
 -- what is still to be written: the lines from place `at` on
-abbrev pub owed : List ℕ → Play → List ℕ → ℕ → List ℕ
-owed text q words at = callsText (q .session) (queueOf words q) (q .line) (linesOf (drop at text))
+abbrev pub owed : List ℕ → Session → Play → List ℕ → ℕ → List ℕ
+owed text s p words at = callsText s (queueOf words p) (p .line) (linesOf (drop at text))
 
 -- where the loop starts: at place `start`, with no words
-pub record Begun (text : List ℕ) (start : ℕ) (p : Play) (out : List ℕ) : Type 0 where
+pub record Begun (text : List ℕ) (start : ℕ) (s : Session) (p : Play) (out : List ℕ) : Type 0 where
   pub limit : length text ≤ 65536
   pub place : start ≤ length text
-  pub kept : Kept (p .session)
+  pub kept : Kept s
   pub from : p .from ≡ 0
   pub to : p .to ≡ 0
   pub line : p .line ≤ start + 1
-  pub end : p .end ≤ 1478 + 43 * start
-  pub room : longest ≤ length out
+  pub end : p .end ≤ 1478 + 22 * start
+  pub room : roomOf text ≤ length out
 
--- the lines up to place `at` are done: q, the words and the buffer are what they led to. What is owed now, written to the
--- buffer as it is now, gives the same as all that was owed, written to the buffer as it was.
-pub record Playing (text : List ℕ) (start : ℕ) (p : Play) (first : List ℕ) (q : Play) (words out : List ℕ) (at : ℕ) : Type 0 where
+-- the lines up to place `at` are done: s, p, the words and the buffer are what they led to. What is owed now, written to
+-- the buffer as it is now, gives the same as all that was owed at first, written to the buffer as it was.
+pub record Playing (text : List ℕ) (start : ℕ) (s₀ : Session) (p₀ : Play) (first : List ℕ) (s : Session) (p : Play) (words out : List ℕ) (at : ℕ) : Type 0 where
+  pub begun : Begun text start s₀ p₀ first
   pub place : at ≤ length text
-  pub kept : Kept (q .session)
-  pub order : q .from ≤ q .to
+  pub kept : Kept s
+  pub order : p .from ≤ p .to
   pub places : length words ≡ 16384
-  pub queued : 4 * q .to ≤ at
-  pub line : q .line ≤ at + 1
-  pub end : q .end ≤ 1478 + 43 * at
+  pub queued : 4 * p .to ≤ at
+  pub line : p .line ≤ at + 1
+  pub end : p .end ≤ 1478 + 22 * at
   pub same : length out ≡ length first
-  pub buffer : overlay out (q .end) (owed text q words at) ≡ overlay first (p .end) (owed text p [] start)
-  pub total : q .end + length (owed text q words at) ≡ p .end + length (owed text p [] start)
+  pub buffer : overlay out (p .end) (owed text s p words at) ≡ overlay first (p₀ .end) (owed text s₀ p₀ [] start)
+  pub total : p .end + length (owed text s p words at) ≡ p₀ .end + length (owed text s₀ p₀ [] start)
 
-module _ (text : List ℕ) (start : ℕ) (p : Play) (first : List ℕ) (begun : Begun text start p first) where
-  start-owed : (words : List ℕ) → owed text p words start ≡ owed text p [] start
-  start-owed words = rw (begun .from, begun .to)
+pub play-less : (text : List ℕ) (at : ℕ) (n : Next) → at < length text → Took text at n → length text - n .at < length text - at
+play-less text at n h t = omega (arith, t .size, t .within, some-size (n .line))
 
-  pub play-start : (words : List ℕ) → length words ≡ 16384 → Playing text start p first p words first start
-  play-start words h = record {
-    place = begun .place;
-    kept = begun .kept;
-    order = omega (arith, begun .from, begun .to);
-    places = h;
-    queued = omega (arith, begun .to);
-    line = begun .line;
-    end = begun .end;
-    same = refl;
-    buffer = ap (overlay first (p .end)) (start-owed words);
-    total = ap (λ (t : List ℕ). p .end + length t) (start-owed words);
-  }
+pub play-start : (text : List ℕ) (start : ℕ) (s : Session) (p : Play) (first words : List ℕ) → Begun text start s p first → length words ≡ 16384
+    → Playing text start s p first s p words first start
+play-start text start s p first words begun h =
+    let none : owed text s p words start ≡ owed text s p [] start = rw (begun .from, begun .to) in
+    record {
+      begun = begun;
+      place = begun .place;
+      kept = begun .kept;
+      order = omega (arith, begun .from, begun .to);
+      places = h;
+      queued = omega (arith, begun .to);
+      line = begun .line;
+      end = begun .end;
+      same = refl;
+      buffer = ap (overlay first (p .end)) none;
+      total = ap (λ (t : List ℕ). p .end + length t) none;
+    }
 
-  module _ (q : Play) (words out : List ℕ) (at : ℕ) (now : Playing text start p first q words out at) where
+module _ (text : List ℕ) (start : ℕ) (s₀ : Session) (p₀ : Play) (first : List ℕ) (s : Session) (p : Play) (words out : List ℕ) (at : ℕ)
+    (now : Playing text start s₀ p₀ first s p words out at) where
+  -- all that was owed, written to the buffer as it was
+  abbrev Whole : ℕ → List ℕ → Type 0
+  Whole r after = Wrote (roomOf text - p₀ .end) (owed text s₀ p₀ [] start) first after (p₀ .end) r
+
+  owed-none : at ≡ length text → owed text s p words at ≡ []
+  unfolding callsText
+  owed-none e = rw (e, lines-end text)
+
+  pub play-done : length text ≤ at → Whole (p .end) out
+  play-done h =
+      let none = owed-none (omega (arith, now .place)) in
+      record {
+        buffer = sym (overlay-none out (p .end)) ∙ ap (overlay out (p .end)) (sym none) ∙ now .buffer;
+        place = omega (arith, now .total, ap length none);
+        short = omega (arith, now .total, ap length none, now .end, now .place);
+      }
+
+  module _ (h : at < length text) where
     -- what a step needs
-    pub play-ready : at < length text → Ready q words out
-    play-ready h = record {
-      sound = now .kept .sound;
+    pub play-ready : Ready p words out
+    play-ready = record {
       order = now .order;
-      within = omega (arith, now .queued, now .places, begun .limit);
-      room = omega (arith, now .end, now .same, begun .room, begun .limit);
-      count = omega (arith, now .line, begun .limit);
+      within = omega (arith, now .queued, now .places, now .begun .limit);
+      room = omega (arith, now .end, now .same, now .begun .room);
+      count = omega (arith, now .line, now .begun .limit);
     }
 
-    pub play-holds : (n : Next) → Took text at n → Holds (n .line) q words
-    play-holds n t = omega (arith, now .queued, now .places, begun .limit, t .size, t .within, words-size (n .line))
+    pub play-tell : (c : Call) (l : List ℕ) (o : Outcome) → o ≡ callOf s l c → l ≡ queueOf words p → Room p out × (p .from + o .used ≤ p .to)
+    play-tell c l o e f =
+        (record { room = play-ready .room; count = play-ready .count }, used-order s c p l words out play-ready f o e)
 
-    -- the whole text is written once nothing is owed
-    ended : (r : ℕ) (after : List ℕ) → Wrote 86 (owed text q words at) out after (q .end) r → at < length text → Wrote (longest - p .end) (owed text p [] start) first after (p .end) r
-    ended r after w h = record {
-      buffer = w .buffer ∙ now .buffer;
-      place = omega (arith, w .place, now .total);
-      short = omega (arith, w .short, now .total, now .end, begun .limit);
-    }
+    module _ (n : Next) (t : Took text at n) where
+      pub play-place : (w : ℕ) → n .line ≡ Word w → p .to < length words
+      play-place w e =
+          omega (arith, now .queued, now .places, now .begun .limit, t .size, t .within, words-size (n .line), ap wordsIn e)
 
-    module _ (h : at < length text) (n : Next) (t : Took text at n) (r : Play) (words′ out′ : List ℕ)
-        (d : Did (wordsIn (n .line)) (stepOf (q .session) (queueOf words q) (q .line) (n .line)) q r words words′ out out′) where
-      owed-over : r .over ≡ true → owed text q words at ≡ stepOf (q .session) (queueOf words q) (q .line) (n .line) .text
-      unfolding callsText
-      owed-over e = rw (t .lines, sym (d .over) ∙ e) (append-nil _)
+      module _ (s′ : Session) (r : Play) (words′ out′ : List ℕ)
+          (d : Did (wordsIn (n .line)) (stepOf s (queueOf words p) (p .line) (n .line)) s′ p r words words′ out out′) where
+        owed-over : r .over ≡ true → owed text s p words at ≡ stepOf s (queueOf words p) (p .line) (n .line) .text
+        unfolding callsText
+        owed-over e = rw (t .lines, sym (d .over) ∙ e) (append-nil _)
 
-      owed-more : r .over ≡ false
-          → owed text q words at ≡ stepOf (q .session) (queueOf words q) (q .line) (n .line) .text ++ owed text r words′ (n .at)
-      unfolding callsText
-      owed-more e = rw (t .lines, sym (d .over) ∙ e, d .line e, add-one, d .session, d .queue)
+        owed-more : r .over ≡ false
+            → owed text s p words at ≡ stepOf s (queueOf words p) (p .line) (n .line) .text ++ owed text s′ r words′ (n .at)
+        unfolding callsText
+        owed-more e = rw (t .lines, sym (d .over) ∙ e, d .line e, add-one, d .session, d .queue)
 
-      pub play-over : r .over ≡ true → Wrote (longest - p .end) (owed text p [] start) first out′ (p .end) (r .end)
-      play-over e = ended (r .end) out′ (rw (owed-over e) (d .wrote)) h
+        step-over : r .over ≡ true → Whole (r .end) out′
+        step-over e =
+            let all = ap length (owed-over e) in
+            record {
+              buffer = d .wrote .buffer ∙ ap (overlay out (p .end)) (sym (owed-over e)) ∙ now .buffer;
+              place = omega (arith, d .wrote .place, now .total, all);
+              short = omega (arith, d .wrote .short, now .total, now .end, all);
+            }
 
-      pub play-next : r .over ≡ false → Playing text start p first r words′ out′ (n .at)
-      play-next e =
-          let x = stepOf (q .session) (queueOf words q) (q .line) (n .line) in
-          let size = open-size (q .session) (queueOf words q) (q .line) (n .line) (sym (d .over) ∙ e) in
-          let fits : q .end + length (x .text) ≤ length out = omega (arith, d .wrote .short, now .end, now .same, begun .room, begun .limit) in
-          record {
-            place = t .within;
-            kept = rw (d .session) (kept-step (q .session) (queueOf words q) (q .line) (n .line) (now .kept));
-            order = d .order;
-            places = d .words ∙ now .places;
-            queued = omega (arith, now .queued, d .most, t .size, words-size (n .line));
-            line = omega (arith, d .line e, now .line, t .size, size);
-            end = omega (arith, d .wrote .place, d .wrote .short, now .end, t .size, size);
-            same = wrote-length 86 (x .text) out out′ (q .end) (r .end) fits (d .wrote) ∙ now .same;
-            buffer =
-                rw (d .wrote .buffer, d .wrote .place) (overlay-more out (q .end) (x .text) fits (owed text r words′ (n .at)))
-                ∙ ap (overlay out (q .end)) (sym (owed-more e))
-                ∙ now .buffer;
-            total =
-                let k = ap length (owed-more e) ∙ length-append (x .text) (owed text r words′ (n .at)) in
-                omega (arith, d .wrote .place, now .total, k);
-          }
+        step-next : r .over ≡ false → Playing text start s₀ p₀ first s′ r words′ out′ (n .at)
+        step-next e =
+            let x = stepOf s (queueOf words p) (p .line) (n .line) in
+            let short = open-short s (now .kept) (queueOf words p) (p .line) (n .line) (sym (d .over) ∙ e) (d .wrote .short) in
+            let fits : p .end + length (x .text) ≤ length out = omega (arith, d .wrote .short, now .end, now .same, now .begun .room) in
+            record {
+              begun = now .begun;
+              place = t .within;
+              kept = rw (d .session) (kept-step s (queueOf words p) (p .line) (n .line) (now .kept));
+              order = d .order;
+              places = d .words ∙ now .places;
+              queued = omega (arith, now .queued, d .most, t .size, words-size (n .line));
+              line = omega (arith, d .line e, now .line, t .size, some-size (n .line));
+              end = omega (arith, d .wrote .place, short, now .end, t .size);
+              same = wrote-length 86 (x .text) out out′ (p .end) (r .end) fits (d .wrote) ∙ now .same;
+              buffer =
+                  rw (d .wrote .buffer, d .wrote .place) (overlay-more out (p .end) (x .text) fits (owed text s′ r words′ (n .at)))
+                  ∙ ap (overlay out (p .end)) (sym (owed-more e))
+                  ∙ now .buffer;
+              total =
+                  let k = ap length (owed-more e) ∙ length-append (x .text) (owed text s′ r words′ (n .at)) in
+                  omega (arith, d .wrote .place, now .total, k);
+            }
 
-    owed-none : at ≡ length text → owed text q words at ≡ []
-    unfolding callsText
-    owed-none e = rw (e, lines-end text)
+      -- ---- the cases of a line
 
-    pub play-done : length text ≤ at → Wrote (longest - p .end) (owed text p [] start) first out (p .end) (q .end)
-    play-done h =
-        let e : at ≡ length text = omega (arith, now .place) in
-        let none : owed text q words at ≡ [] = owed-none e in
-        record {
-          buffer = sym (overlay-none out (q .end)) ∙ ap (overlay out (q .end)) (sym none) ∙ now .buffer;
-          place = omega (arith, now .total, ap length none);
-          short = omega (arith, now .total, ap length none, now .end, begun .limit);
-        }
+      module _ (w : ℕ) (e : n .line ≡ Word w) (r : Play) (words′ out′ : List ℕ) (q : Queued (s .clock) w p r words words′ out out′) where
+        word-did : Did (wordsIn (n .line)) (stepOf s (queueOf words p) (p .line) (n .line)) s p r words words′ out out′
+        word-did = rw e (q .did s refl)
 
-pub ruleset play-laws = (play-start, play-less, play-ready, play-holds, play-over, play-next, play-done)
+        pub play-word : r .over ≡ false → Playing text start s₀ p₀ first s r words′ out′ (n .at)
+        play-word f = step-next s r words′ out′ word-did f
+
+        pub play-full : r .over ≡ true → Whole (r .end) out′
+        play-full f = step-over s r words′ out′ word-did f
+
+      pub play-call : (c : Call) (l : List ℕ) (o : Outcome) (letter : ℕ) (r : Play) (out′ : List ℕ) → n .line ≡ CallLine c → o ≡ callOf s l c → l ≡ queueOf words p
+          → letter ≡ letterOf c → Told (answerText (o .session .clock) letter (o .answer)) (o .used) p r out out′
+          → Playing text start s₀ p₀ first (o .session) r words out′ (n .at)
+      play-call c l o letter r out′ e f g k u =
+          step-next (o .session) r words out′ (rw e (did-call s c p l words out play-ready g o f letter r out′ k u)) (u .over)
+
+      module _ (r : Play) (out′ : List ℕ) (u : Unread (s .clock) p r out out′) where
+        pub play-row : (c t d : ℕ) → n .line ≡ Row c t d → Whole (r .end) out′
+        unfolding stepOf
+        play-row c t d e = step-over s r words out′ (rw e (did-unread p r words out out′ (now .order) s u 0)) (u .over)
+
+        pub play-unreadable : n .line ≡ Unreadable → Whole (r .end) out′
+        unfolding stepOf
+        play-unreadable e = step-over s r words out′ (rw e (did-unread p r words out out′ (now .order) s u 0)) (u .over)
+
+pub ruleset play-laws = (play-start, play-less, play-ready, play-place, play-word, play-full, play-call, play-row, play-unreadable, play-done)

@@ -6,7 +6,7 @@ use native.Mathlib.Omega.{arith}
 use lib.ListN.{length, take, drop, set, replicate, length-set, length-append, length-take}
 use lib.Seq.{sets-eq, take-at}
 use Rattle.lines.specs.declared.read.Line.{Line}
-use Rattle.lines.specs.declared.read.Line.the-variants.{Row, Word, Arrive, Choose, Advance, Finish, Unreadable}
+use Rattle.lines.specs.declared.read.Line.the-variants.{Row, Word, Call, Unreadable}
 use Rattle.lines.specs.declared.read.Next.{Next}
 use Rattle.lines.specs.Lines.{linesOf, lines-end, Took}
 use Rattle.transcript.specs.declared.rows.Rows.{Rows}
@@ -65,20 +65,14 @@ rows-other : (k : ℕ) (x : Line) (m : List Line) → ((c p d : ℕ) → x ≡ R
 rows-other zero x m ne = refl
 rows-other (suc k) (Row c p d) m ne = absurd (ne c p d refl)
 rows-other (suc k) (Word w) m ne = refl
-rows-other (suc k) (Arrive i) m ne = refl
-rows-other (suc k) Choose m ne = refl
-rows-other (suc k) (Advance n) m ne = refl
-rows-other (suc k) Finish m ne = refl
+rows-other (suc k) (Call c) m ne = refl
 rows-other (suc k) Unreadable m ne = refl
 
 after-other : (k : ℕ) (x : Line) (m : List Line) → ((c p d : ℕ) → x ≡ Row c p d → ⊥) → afterRows k (x ∷ m) ≡ x ∷ m
 after-other zero x m ne = refl
 after-other (suc k) (Row c p d) m ne = absurd (ne c p d refl)
 after-other (suc k) (Word w) m ne = refl
-after-other (suc k) (Arrive i) m ne = refl
-after-other (suc k) Choose m ne = refl
-after-other (suc k) (Advance n) m ne = refl
-after-other (suc k) Finish m ne = refl
+after-other (suc k) (Call c) m ne = refl
 after-other (suc k) Unreadable m ne = refl
 
 -- one row less is left to read

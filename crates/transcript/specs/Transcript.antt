@@ -1,5 +1,5 @@
 -- The whole of what the program writes (docs/SPECIFICATION.md §8.4). Assumes nothing.
-use Prim.Native.Nat.{ℕ, zero, suc, _+_, _/_, _≤_, _<_}
+use Prim.Native.Nat.{ℕ, zero, suc, _+_, _*_, _/_, _≤_, _<_, min}
 use mathlib.Core.Path.{_≡_}
 use mathlib.Core.Bool.{cond}
 use mathlib.Core.List.{List, [], _∷_, _++_}
@@ -9,7 +9,7 @@ use lib.ListN.{length, getD, take}
 use Rattle.decimal.specs.Decimal.{decimal}
 use Rattle.decimal.specs.Buffer.{overlay}
 use Rattle.lines.specs.declared.read.Line.{Line}
-use Rattle.lines.specs.declared.read.Line.the-variants.{Row, Word, Arrive, Choose, Advance, Finish, Unreadable}
+use Rattle.lines.specs.declared.read.Line.the-variants.{Row, Word, Call, Unreadable}
 use Rattle.lines.specs.Lines.{linesOf}
 use Rattle.lines.specs.Text.{headText, lineText}
 use Rattle.table.specs.Rows.{tasksOf}
@@ -31,10 +31,7 @@ rowsIn zero l = []
 rowsIn (suc k) [] = []
 rowsIn (suc k) (Row c t d ∷ l) = c ∷ t ∷ d ∷ rowsIn k l
 rowsIn (suc k) (Word w ∷ l) = []
-rowsIn (suc k) (Arrive row ∷ l) = []
-rowsIn (suc k) (Choose ∷ l) = []
-rowsIn (suc k) (Advance n ∷ l) = []
-rowsIn (suc k) (Finish ∷ l) = []
+rowsIn (suc k) (Call c ∷ l) = []
 rowsIn (suc k) (Unreadable ∷ l) = []
 
 -- the lines after them
@@ -43,10 +40,7 @@ afterRows zero l = l
 afterRows (suc k) [] = []
 afterRows (suc k) (Row c t d ∷ l) = afterRows k l
 afterRows (suc k) (Word w ∷ l) = Word w ∷ l
-afterRows (suc k) (Arrive row ∷ l) = Arrive row ∷ l
-afterRows (suc k) (Choose ∷ l) = Choose ∷ l
-afterRows (suc k) (Advance n ∷ l) = Advance n ∷ l
-afterRows (suc k) (Finish ∷ l) = Finish ∷ l
+afterRows (suc k) (Call c ∷ l) = Call c ∷ l
 afterRows (suc k) (Unreadable ∷ l) = Unreadable ∷ l
 
 -- a number with its sign
@@ -79,20 +73,22 @@ printedOf l t =
 unfoldable pub inputLines : List ℕ → List Line
 inputLines input = linesOf (take inputLimit input)
 
--- a buffer of this length holds every output: 86 bytes for each two of the input, 86 for the line `M`, 87 for each line `B`
--- and 86 for a line `?`
-abbrev pub longest : ℕ
-longest = 2819612
+-- a buffer of this length holds every output for n bytes of input: 22 bytes for each of them that is read, 86 for the line
+-- `M`, 87 for each of 16 lines `B`, and 86 for a line `?`
+unfoldable pub roomFor : ℕ → ℕ
+roomFor n = 1564 + 22 * min n inputLimit
 
--- the text stands at the start of the buffer, with the rest as it was, and r is its length; a t that it names is exceeded
-pub record Printed (l : List Line) (before after : List ℕ) (r : ℕ) : Type 0 where
+-- the text stands at the start of the buffer, with the rest as it was, and r, no more than `most`, is its length; a t that
+-- it names is exceeded
+pub record Printed (l : List Line) (before after : List ℕ) (most r : ℕ) : Type 0 where
   pub t : ℕ
   pub witness : answerOf (rowsIn rowLimit l) t .number ≡ 3 → Exceeded (tasksOf (rowsIn rowLimit l)) t
   pub buffer : after ≡ overlay before 0 (printedOf l t)
   pub length : r ≡ length (printedOf l t)
-  pub fits : r ≤ longest
+  pub fits : r ≤ most
 
 -- the contract of `transcribe`: a buffer that may be too short is left as it was, with 0 for an answer, which no text has
 pub data Transcribed (input before after : List ℕ) (r : ℕ) : Type 0 where
-  tooShort : length before < longest → after ≡ before → r ≡ 0 → Transcribed input before after r
-  printed : longest ≤ length before → Printed (inputLines input) before after r → Transcribed input before after r
+  tooShort : length before < roomFor (length input) → after ≡ before → r ≡ 0 → Transcribed input before after r
+  printed : roomFor (length input) ≤ length before → Printed (inputLines input) before after (roomFor (length input)) r
+      → Transcribed input before after r

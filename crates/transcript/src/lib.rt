@@ -3,7 +3,8 @@ ghost use mathlib.Core.Path.{_≡_};
 ghost use Prim.Native.Nat.{_≤_, min};
 ghost use lib.ListN.{length};
 ghost use Rattle.lines.specs.Lines.{linesOf};
-ghost use Rattle.transcript.specs.Transcript.{inputLimit, longest, Printed, Transcribed};
+ghost use Rattle.transcript.specs.Transcript.{inputLimit, roomFor, Printed, Transcribed};
+ghost use Rattle.transcript.specs.Plays.{roomOf};
 use step::Play;
 
 pub mod admission;
@@ -15,7 +16,7 @@ pub mod step;
 pub const INPUT: usize = 65536;
 
 // A buffer of this length holds every output.
-pub const LONGEST: usize = 2819612;
+pub const LONGEST: usize = 1443356;
 
 fn least(n: usize) -> usize
     ensures { λ r. ⌜ r ≡ min n inputLimit ⌝ }
@@ -23,10 +24,17 @@ fn least(n: usize) -> usize
     if n < INPUT { n } else { INPUT }
 }
 
+// How long a buffer has to be for n bytes of input.
+pub fn room_for(n: usize) -> usize
+    ensures { λ r. ⌜ r ≡ roomFor n ⌝ }
+{
+    1564 + 22 * least(n)
+}
+
 // A text that may be read whole.
 fn print(text: &[u8], out: &mut [u8]) -> usize
-    requires { ⌜ (length (now text) ≤ inputLimit) × (longest ≤ length (now out)) ⌝ }
-    ensures { λ r. ⌜ Printed (linesOf (now (text .entry))) (now (out .entry)) (now (out .exit)) r ⌝ }
+    requires { ⌜ (length (now text) ≤ inputLimit) × (roomOf (now text) ≤ length (now out)) ⌝ }
+    ensures { λ r. ⌜ Printed (linesOf (now (text .entry))) (now (out .entry)) (now (out .exit)) (roomOf (now (text .entry))) r ⌝ }
 {
     let t = rows::read_rows(text);
     let words = t.words;
@@ -42,22 +50,21 @@ fn print(text: &[u8], out: &mut [u8]) -> usize
     }
     let session = a.session;
     let p = Play {
-        session,
         from: 0,
         to: 0,
         line: (count as u64) + 1,
         end,
         over: false,
     };
-    play::play(text, t.at, p, out)
+    play::play(text, t.at, session, p, out)
 }
 
 // Writes the answers to the first 65,536 bytes of the input to the start of `out`, and gives their length. A buffer shorter
-// than `LONGEST` is left as it is, and the answer is 0.
+// than `room_for` says is left as it is, and the answer is 0.
 pub fn transcribe(input: &[u8], out: &mut [u8]) -> usize
     ensures { λ r. ⌜ Transcribed (now (input .entry)) (now (out .entry)) (now (out .exit)) r ⌝ }
 {
-    if out.len() < LONGEST {
+    if out.len() < room_for(input.len()) {
         return 0;
     }
     let n = least(input.len());

@@ -1,29 +1,60 @@
 // The lines after the table, one after another (docs/SPECIFICATION.md §8.4).
 ghost use Prim.Native.Nat.{_-_};
 ghost use mathlib.Core.List.{[]};
+ghost use lib.ListN.{length};
 ghost use Rattle.decimal.specs.Buffer.{Wrote};
-ghost use Rattle.transcript.specs.Transcript.{longest};
-ghost use Rattle.transcript.specs.Plays.{Begun, owed};
+ghost use Rattle.transcript.specs.Plays.{roomOf, Begun, owed};
 use crate::step::Play;
-use crate::step::step;
+use crate::step::call;
+use crate::step::letter;
+use crate::step::queue;
+use crate::step::refuse;
+use crate::step::tell;
+use lines::read::Line;
 use lines::read::next_line;
+use session::Session;
 
 // From place `start` of the text on. Each word takes four bytes of it, so that 16,384 places hold all words.
-pub fn play(text: &[u8], start: usize, p: Play, out: &mut [u8]) -> usize
-    requires { ⌜ Begun (now text) start p (now out) ⌝ }
-    ensures { λ r. ⌜ Wrote (longest - p .end) (owed (now (text .entry)) p [] start) (now (out .entry)) (now (out .exit)) (p .end) r ⌝ }
+pub fn play(text: &[u8], start: usize, session: Session, first: Play, out: &mut [u8]) -> usize
+    requires { ⌜ Begun (now text) start session first (now out) ⌝ }
+    ensures { λ r. ⌜ Wrote (roomOf (now (text .entry)) - first .end) (owed (now (text .entry)) session first [] start) (now (out .entry)) (now (out .exit)) (first .end) r ⌝ }
 {
     let mut words = [0u32; 16384];
-    let mut q = p;
+    let mut s = session;
+    let mut p = first;
     let mut at = start;
     while at < text.len() {
         let n = next_line(text, at);
         let line = n.line;
-        q = step(q, line, &mut words, out);
         at = n.at;
-        if q.over {
-            return q.end;
+        match line {
+            Line::Word(w) => {
+                p = queue(p, s.clock, w, &mut words, out);
+                if p.over {
+                    return p.end;
+                }
+                continue;
+            }
+            Line::Call(c) => {
+                let from = p.from;
+                let to = p.to;
+                let o = call(s, c, &words[from..to]);
+                let answer = o.answer;
+                s = o.session;
+                p = tell(p, letter(c), s.clock, answer, o.used, out);
+                continue;
+            }
+            Line::Row {
+                run: _,
+                period: _,
+                deadline: _,
+            } => {
+                return refuse(p, s.clock, out).end;
+            }
+            Line::Unreadable => {
+                return refuse(p, s.clock, out).end;
+            }
         }
     }
-    q.end
+    p.end
 }

@@ -1,18 +1,20 @@
 // One line after the table (docs/SPECIFICATION.md §8.4).
 ghost use mathlib.Core.Path.{_≡_};
+ghost use mathlib.Core.Bool.{true};
 ghost use Prim.Native.Nat.{_+_, _≤_, _<_};
 ghost use lib.ListN.{length};
-ghost use Rattle.transcript.specs.Step.{stepOf};
-ghost use Rattle.transcript.specs.Play.{Room, Ready, Holds, queueOf, wordsIn, Told, Unread, Did};
-use lines::read::Line;
+ghost use Rattle.session.specs.Sound.{sound};
+ghost use Rattle.transcript.specs.Step.{letterOf, callOf, answerText};
+ghost use Rattle.transcript.specs.Play.{Room, Ready, Told, Unread, Queued};
+use lines::read::Call;
 use lines::write::put_line;
+use session::Answer;
 use session::Outcome;
 use session::Session;
 use table::rows::wide;
 
-// What the lines so far have led to.
+// What the lines so far have led to, besides the session.
 pub struct Play {
-    pub session: Session,
     // Of all words queued so far, those from place `from` up to place `to` wait.
     pub from: usize,
     pub to: usize,
@@ -24,26 +26,39 @@ pub struct Play {
     pub over: bool,
 }
 
-// Prints a call's answer.
-fn tell(p: Play, letter: u8, o: Outcome, out: &mut [u8]) -> Play
-    requires { ⌜ Room p (now out) ⌝ }
-    ensures { λ r. ⌜ Told letter o p r (now (out .entry)) (now (out .exit)) ⌝ }
+pub fn letter(c: Call) -> u8
+    ensures { λ r. ⌜ r ≡ letterOf c ⌝ }
 {
-    let session = o.session;
-    let answer = o.answer;
+    match c {
+        Call::Arrive(_) => 65,
+        Call::Choose => 71,
+        Call::Advance(_) => 82,
+        Call::Finish => 70,
+    }
+}
+
+// `words` are those that wait. The session is sound, so no check is made.
+pub fn call(s: Session, c: Call, words: &[u32]) -> Outcome
+    requires { ⌜ sound s ≡ true ⌝ }
+    ensures { λ r. ⌜ r ≡ callOf s (now (words .entry)) c ⌝ }
+{
+    match c {
+        Call::Arrive(row) => calls::arrive::arrive_sound(s, wide(row)),
+        Call::Choose => choice::choose_sound(s, words),
+        Call::Advance(n) => calls::advance::advance_sound(s, wide(n)),
+        Call::Finish => calls::finish::finish_sound(s),
+    }
+}
+
+// Prints the answer of a call that used so many words, with the clock after it.
+pub fn tell(p: Play, letter: u8, clock: u64, answer: Answer, used: u64, out: &mut [u8]) -> Play
+    requires { ⌜ Room p (now out) × (p .from + used ≤ p .to) ⌝ }
+    ensures { λ r. ⌜ Told (answerText clock letter answer) used p r (now (out .entry)) (now (out .exit)) ⌝ }
+{
     let n = session::show(answer);
-    let end = put_line(
-        out,
-        p.end,
-        session.clock,
-        letter,
-        n.number,
-        n.first,
-        n.second,
-    );
+    let end = put_line(out, p.end, clock, letter, n.number, n.first, n.second);
     Play {
-        session,
-        from: p.from,
+        from: p.from + (used as usize),
         to: p.to,
         line: p.line + 1,
         end,
@@ -52,20 +67,21 @@ fn tell(p: Play, letter: u8, o: Outcome, out: &mut [u8]) -> Play
 }
 
 // Prints that the line is unreadable; output ends.
-fn refuse(p: Play, out: &mut [u8]) -> Play
+pub fn refuse(p: Play, clock: u64, out: &mut [u8]) -> Play
     requires { ⌜ Room p (now out) ⌝ }
-    ensures { λ r. ⌜ Unread p r (now (out .entry)) (now (out .exit)) ⌝ }
+    ensures { λ r. ⌜ Unread clock p r (now (out .entry)) (now (out .exit)) ⌝ }
 {
-    let end = put_line(out, p.end, p.session.clock, 63, 13, p.line, 0);
+    let end = put_line(out, p.end, clock, 63, 13, p.line, 0);
     let mut q = p;
     q.end = end;
     q.over = true;
     q
 }
 
-fn queue(p: Play, w: u32, words: &mut [u32], out: &mut [u8]) -> Play
+// A word joins those that wait; where they are too many, the line counts as unreadable.
+pub fn queue(p: Play, clock: u64, w: u32, words: &mut [u32], out: &mut [u8]) -> Play
     requires { ⌜ Ready p (now words) (now out) × (p .to < length (now words)) ⌝ }
-    ensures { λ r. ⌜ Did 1 (stepOf (p .session) (queueOf (now (words .entry)) p) (p .line) (Line.Word w)) p r (now (words .entry)) (now (words .exit)) (now (out .entry)) (now (out .exit)) ⌝ }
+    ensures { λ r. ⌜ Queued clock w p r (now (words .entry)) (now (words .exit)) (now (out .entry)) (now (out .exit)) ⌝ }
 {
     let from = p.from;
     let to = p.to;
@@ -77,48 +93,5 @@ fn queue(p: Play, w: u32, words: &mut [u32], out: &mut [u8]) -> Play
         q.over = false;
         return q;
     }
-    refuse(p, out)
-}
-
-// Chooses from the words that wait, and drops those used.
-fn choose(p: Play, words: &[u32], out: &mut [u8]) -> Play
-    requires { ⌜ Ready p (now words) (now out) ⌝ }
-    ensures { λ r. ⌜ Did 0 (stepOf (p .session) (queueOf (now (words .entry)) p) (p .line) Line.Choose) p r (now (words .entry)) (now (words .entry)) (now (out .entry)) (now (out .exit)) ⌝ }
-{
-    let from = p.from;
-    let to = p.to;
-    let o = choice::choose_sound(p.session, &words[from..to]);
-    let used = o.used;
-    let mut q = p;
-    q.from = from + (used as usize);
-    tell(q, 71, o, out)
-}
-
-pub fn step(p: Play, x: Line, words: &mut [u32], out: &mut [u8]) -> Play
-    requires { ⌜ Ready p (now words) (now out) × Holds x p (now words) ⌝ }
-    ensures { λ r. ⌜ Did (wordsIn x) (stepOf (p .session) (queueOf (now (words .entry)) p) (p .line) x) p r (now (words .entry)) (now (words .exit)) (now (out .entry)) (now (out .exit)) ⌝ }
-{
-    match x {
-        Line::Word(w) => queue(p, w, words, out),
-        Line::Choose => choose(p, words, out),
-        Line::Arrive(row) => tell(
-            p,
-            65,
-            calls::arrive::arrive_sound(p.session, wide(row)),
-            out,
-        ),
-        Line::Advance(n) => tell(
-            p,
-            82,
-            calls::advance::advance_sound(p.session, wide(n)),
-            out,
-        ),
-        Line::Finish => tell(p, 70, calls::finish::finish_sound(p.session), out),
-        Line::Row {
-            run: _,
-            period: _,
-            deadline: _,
-        } => refuse(p, out),
-        Line::Unreadable => refuse(p, out),
-    }
+    refuse(p, clock, out)
 }

@@ -5,8 +5,6 @@ use Rattle.transcript.specs.Entry.{written-within}
 use borrow.Author.Needs.{needs}
 use Rattle.replay.proofs.answer.Statement.{statement}
 use Rattle.replay.proofs.answer.Tie as tie
-use Rattle.io.proofs.write_all.Reads as write-all-reads
-use Rattle.transcript.proofs.transcribe.Reads as transcribe-reads
 
 transcribe-requires : tie.Need-transcribe-requires
 transcribe-requires c κs = search needs

@@ -5,9 +5,6 @@ use mathlib.Core.Path.{sym}
 use borrow.Author.Needs.{needs}
 use Rattle.replay.proofs.case.Statement.{statement}
 use Rattle.replay.proofs.case.Tie as tie
-use Rattle.decimal.proofs.read.read_number.Reads as read-number-reads
-use Rattle.lines.proofs.read.place.Reads as place-reads
-use Rattle.replay.proofs.answer.Reads as answer-reads
 
 sub-rest : tie.Need-sub-rest
 sub-rest c = search needs

@@ -5,13 +5,9 @@ use Prim.Native.Nat.{_≤_, _-_}
 use borrow.Author.Needs.{needs}
 use Rattle.replay.proofs.main.Statement.{statement}
 use Rattle.replay.proofs.main.Tie as tie
-use Rattle.io.proofs.large_buffer.Reads as large-buffer-reads
-use Rattle.io.proofs.read_full.Reads as read-full-reads
-use Rattle.replay.proofs.buffer.Reads as buffer-reads
-use Rattle.replay.proofs.case.Reads as case-reads
 
 abbrev Inv-loop : tie.InvT-loop
-Inv-loop n text out₀ at₀ out at = (at ≤ length text) × (length out ≡ 2819612)
+Inv-loop n text out₀ at₀ out at = (at ≤ length text) × (length out ≡ 1443356)
 
 abbrev μ-loop : tie.MeasureT-loop
 μ-loop n text out₀ at₀ out at = length text - at

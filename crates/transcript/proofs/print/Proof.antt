@@ -7,11 +7,6 @@ use borrow.Author.Needs.{needs}
 use borrow.Author.Needs.{needs}
 use Rattle.transcript.proofs.print.Statement.{statement}
 use Rattle.transcript.proofs.print.Tie as tie
-use Rattle.session.proofs.admit.admit.Reads as admit-reads
-use Rattle.table.proofs.shown.Reads as shown-reads
-use Rattle.transcript.proofs.admission.put_admission.Reads as put-admission-reads
-use Rattle.transcript.proofs.play.play.Reads as play-reads
-use Rattle.transcript.proofs.rows.read_rows.Reads as read-rows-reads
 
 read-rows-requires : tie.Need-read-rows-requires
 read-rows-requires c κs = search needs

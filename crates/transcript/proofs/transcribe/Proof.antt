@@ -1,5 +1,4 @@
 -- `transcript::transcribe` meets its contract. Assumes nothing.
-use lib.ListN.{length-take}
 use native.Mathlib.Omega.{arith}
 use lib.Seq.{length-take-le}
 use mathlib.Core.Path.{sym}
@@ -8,8 +7,9 @@ use borrow.Author.Needs.{needs}
 use borrow.Author.Needs.{needs}
 use Rattle.transcript.proofs.transcribe.Statement.{statement}
 use Rattle.transcript.proofs.transcribe.Tie as tie
-use Rattle.transcript.proofs.least.Reads as least-reads
-use Rattle.transcript.proofs.print.Reads as print-reads
+
+room-for-requires : tie.Need-room-for-requires
+room-for-requires c κs = search needs
 
 returns : tie.Need-returns
 returns c = search (needs, entry-cases)
@@ -21,7 +21,7 @@ slice-aggregate-print : tie.Need-slice-aggregate-print
 slice-aggregate-print c = sym (length-take-le _ _ (omega arith))
 
 print-requires : tie.Need-print-requires
-print-requires c κs = (rw length-take (omega arith), search needs)
+print-requires c κs = search (needs, entry-cases)
 
 same-length : tie.Need-same-length
 same-length c = search needs
@@ -32,4 +32,11 @@ returns-2 c = search (needs, entry-cases)
 pub transcribe-spec : {M : Type 1} → statement M
 transcribe-spec =
     tie.close
-    (tie.spec returns least-requires slice-aggregate-print print-requires same-length returns-2)
+    (tie.spec
+    room-for-requires
+    returns
+    least-requires
+    slice-aggregate-print
+    print-requires
+    same-length
+    returns-2)

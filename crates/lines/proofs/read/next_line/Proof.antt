@@ -7,8 +7,6 @@ use borrow.Author.Needs.{needs}
 use borrow.Author.Needs.{needs}
 use Rattle.lines.proofs.read.next_line.Statement.{statement}
 use Rattle.lines.proofs.read.next_line.Tie as tie
-use Rattle.lines.proofs.read.place.Reads as place-reads
-use Rattle.lines.proofs.read.read_line.Reads as read-line-reads
 
 sub-rest : tie.Need-sub-rest
 sub-rest c = search needs

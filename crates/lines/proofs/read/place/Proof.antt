@@ -4,7 +4,6 @@ use borrow.Author.Needs.{needs}
 use borrow.Author.Needs.{needs}
 use Rattle.lines.proofs.read.place.Statement.{statement}
 use Rattle.lines.proofs.read.place.Tie as tie
-use Rattle.bytes.proofs.scan.find.Reads as find-reads
 
 find-requires : tie.Need-find-requires
 find-requires c κs = search needs

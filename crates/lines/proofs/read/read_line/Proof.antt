@@ -4,9 +4,6 @@ use borrow.Author.Needs.{needs}
 use borrow.Author.Needs.{needs}
 use Rattle.lines.proofs.read.read_line.Statement.{statement}
 use Rattle.lines.proofs.read.read_line.Tie as tie
-use Rattle.lines.proofs.read.bare.Reads as bare-reads
-use Rattle.lines.proofs.read.read_row.Reads as read-row-reads
-use Rattle.lines.proofs.read.read_single.Reads as read-single-reads
 
 returns : tie.Need-returns
 returns c = search (needs, line-cases)

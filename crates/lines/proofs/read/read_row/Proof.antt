@@ -7,9 +7,6 @@ use borrow.Author.Needs.{needs}
 use borrow.Author.Needs.{needs}
 use Rattle.lines.proofs.read.read_row.Statement.{statement}
 use Rattle.lines.proofs.read.read_row.Tie as tie
-use Rattle.decimal.proofs.read.read_number.Reads as read-number-reads
-use Rattle.lines.proofs.read.place.Reads as place-reads
-use Rattle.lines.proofs.read.row.Reads as row-reads
 
 place-requires : tie.Need-place-requires
 place-requires c κs = search needs

@@ -4,8 +4,6 @@ use borrow.Author.Needs.{needs}
 use borrow.Author.Needs.{needs}
 use Rattle.lines.proofs.read.read_single.Statement.{statement}
 use Rattle.lines.proofs.read.read_single.Tie as tie
-use Rattle.decimal.proofs.read.read_number.Reads as read-number-reads
-use Rattle.lines.proofs.read.single.Reads as single-reads
 
 read-number-requires : tie.Need-read-number-requires
 read-number-requires c κs = search needs

@@ -4,8 +4,6 @@ use borrow.Author.Needs.{needs}
 use borrow.Author.Needs.{needs}
 use Rattle.lines.proofs.write.put_head.Statement.{statement}
 use Rattle.lines.proofs.write.put_head.Tie as tie
-use Rattle.decimal.proofs.write.put_number.Reads as put-number-reads
-use Rattle.lines.proofs.write.put_letter.Reads as put-letter-reads
 
 put-number-requires : tie.Need-put-number-requires
 put-number-requires c κs = search needs

@@ -4,7 +4,6 @@ use borrow.Author.Needs.{needs}
 use borrow.Author.Needs.{needs}
 use Rattle.lines.proofs.write.put_letter.Statement.{statement}
 use Rattle.lines.proofs.write.put_letter.Tie as tie
-use Rattle.decimal.proofs.write.put_byte.Reads as put-byte-reads
 
 put-byte-requires : tie.Need-put-byte-requires
 put-byte-requires c κs = search needs

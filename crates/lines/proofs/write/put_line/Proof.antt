@@ -4,8 +4,6 @@ use borrow.Author.Needs.{needs}
 use borrow.Author.Needs.{needs}
 use Rattle.lines.proofs.write.put_line.Statement.{statement}
 use Rattle.lines.proofs.write.put_line.Tie as tie
-use Rattle.decimal.proofs.write.put_number.Reads as put-number-reads
-use Rattle.lines.proofs.write.put_head.Reads as put-head-reads
 
 put-head-requires : tie.Need-put-head-requires
 put-head-requires c κs = search needs

@@ -4,7 +4,6 @@ use borrow.Author.Needs.{needs}
 use borrow.Author.Needs.{needs}
 use Rattle.transcript.proofs.step.queue.Statement.{statement}
 use Rattle.transcript.proofs.step.queue.Tie as tie
-use Rattle.transcript.proofs.step.refuse.Reads as refuse-reads
 
 sub-if1 : tie.Need-sub-if1
 sub-if1 c = search needs

@@ -4,8 +4,6 @@ use borrow.Author.Needs.{needs}
 use borrow.Author.Needs.{needs}
 use Rattle.transcript.proofs.step.tell.Statement.{statement}
 use Rattle.transcript.proofs.step.tell.Tie as tie
-use Rattle.lines.proofs.write.put_line.Reads as put-line-reads
-use Rattle.session.proofs.show.Reads as show-reads
 
 show-requires : tie.Need-show-requires
 show-requires c κs = search needs
@@ -13,8 +11,11 @@ show-requires c κs = search needs
 put-line-requires : tie.Need-put-line-requires
 put-line-requires c κs = search needs
 
-add-t11 : tie.Need-add-t11
-add-t11 c = search needs
+add-t12 : tie.Need-add-t12
+add-t12 c = search needs
+
+add-t13 : tie.Need-add-t13
+add-t13 c = search needs
 
 same-length : tie.Need-same-length
 same-length c = search needs
@@ -23,4 +24,5 @@ returns : tie.Need-returns
 returns c = search (needs, told-is)
 
 pub tell-spec : {M : Type 1} → statement M
-tell-spec = tie.close (tie.spec show-requires put-line-requires add-t11 same-length returns)
+tell-spec =
+    tie.close (tie.spec show-requires put-line-requires add-t12 add-t13 same-length returns)
