@@ -45,7 +45,7 @@ pub always-sound : AlwaysSound
 always-sound l t e calls = good-reached l t e calls .sound
 
 -- a sound session's refusals begin at 6
-not-five : {s s′ : Session} {c : Call} {a : Answer} → Effect s c s′ a → shown a .number ≡ 5 → ⊥
+pub not-five : {s s′ : Session} {c : Call} {a : Answer} → Effect s c s′ a → shown a .number ≡ 5 → ⊥
 not-five (refusal a h) z = omega arith
 not-five (arrived k row ready) z = omega arith
 not-five (chosen w) z = omega arith

@@ -3,6 +3,7 @@ pub mod Play
 pub mod Transcript
 pub mod Table
 pub mod Admission
+pub mod Kept
 pub mod Short
 pub mod Plays
 pub mod Entry

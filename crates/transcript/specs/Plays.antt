@@ -20,7 +20,8 @@ use Rattle.session.specs.declared.Outcome.{Outcome}
 use Rattle.transcript.specs.declared.step.Play.{Play}
 use Rattle.transcript.specs.Step.{queueLimit, letterOf, callOf, answerText, stepOf, callsText}
 use Rattle.transcript.specs.Play.{queueOf, Room, Ready, Told, Unread, Queued, Did, did-unread, used-order, did-call}
-use Rattle.transcript.specs.Short.{Kept, kept-call, open-short}
+use Rattle.transcript.specs.Kept.{Kept, kept-call}
+use Rattle.transcript.specs.Short.{open-short}
 
 -- ---- what a step keeps
 

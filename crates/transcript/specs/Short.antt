@@ -1,13 +1,13 @@
 -- No line of calls prints more than 22 bytes for each byte that it takes. Assumes nothing.
 use Prim.Native.Nat.{ℕ, _+_, _*_, _≤_, _<_, _^_}
-use mathlib.Core.Path.{_≡_, sym, subst}
+use mathlib.Core.Path.{_≡_}
 use mathlib.Core.Bool.{false, true≢false}
 use mathlib.Core.List.{List}
 use mathlib.Core.Logic.{⊎-elim}
 use native.Mathlib.Omega.{arith}
 use lib.Dec.{ltb, eqb}
 use lib.ListN.{length}
-use borrow.Author.Tests.{ltb-true, eqb-false}
+use borrow.Author.Tests.{ltb-true}
 use Rattle.bounded.specs.Tests.{both}
 use Rattle.decimal.specs.Decimal.{decimal, decimal-short}
 use Rattle.lines.specs.declared.read.Call.{Call}
@@ -16,47 +16,18 @@ use Rattle.lines.specs.declared.read.Line.{Line}
 use Rattle.lines.specs.declared.read.Line.the-variants.{Row, Word, Call as CallLine, Unreadable}
 use Rattle.lines.specs.Lines.{leastSize}
 use Rattle.lines.specs.Text.{line-length}
-use Rattle.table.specs.Rows.{horizon, Fit}
+use Rattle.table.specs.Rows.{horizon}
 use Rattle.session.specs.declared.Session.{Session}
 use Rattle.session.specs.declared.Answer.{Answer}
 use Rattle.session.specs.declared.Answer.the-variants.{Arrived, Chosen, Advanced, Finished, Unsound, NoRow, TooEarly, InForce, NoChoice, BadStep, Idling, ClockEnd}
-use Rattle.session.specs.Reading.{idle, rowsOf}
-use Rattle.session.specs.Choose.{pickOf, pickUsed, spanOf, room, lengthDrawn}
+use Rattle.session.specs.Reading.{idle}
+use Rattle.session.specs.Choose.{pickOf, pickUsed, spanOf, lengthDrawn}
 use Rattle.session.specs.Calls.{shown, chooseOf, chooseIn, finishOf, finishIn}
-use Rattle.session.specs.Facts.{Choice, Running, facts-of}
-use Rattle.guarantee.specs.Ledger as ledger
-use Rattle.guarantee.specs.Statement.{outcomeOf}
-use Rattle.guarantee.specs.Good.{Good}
-use Rattle.guarantee.specs.Keeps.{good-call}
+use Rattle.session.specs.Facts.{facts-of}
 use Rattle.guarantee.specs.KeepsSound.{in-force, running}
 use Rattle.guarantee.specs.Exact.{divisors}
-use Rattle.transcript.specs.Step.{queueLimit, letterOf, callOf, answerText, stepOf}
-
--- a session that a list of calls from a fresh one leads to, with the table being its own rows
-abbrev pub Kept : Session → Type 0
-Kept s = Good (rowsOf s) s
-
--- the program's calls are those that the guarantee speaks of
-abbrev pub asCall : List ℕ → Call → ledger.Call
-asCall q (Arrive row) = ledger.arrive row
-asCall q Choose = ledger.choose q
-asCall q (Advance n) = ledger.advance n
-asCall q Finish = ledger.finish
-
-pub kept-call : (s : Session) → Kept s → (q : List ℕ) (c : Call) → Kept (callOf s q c .session)
-unfolding callOf
-kept-call s g q c = by c
-  where
-    kept : (c : ledger.Call) → Kept (outcomeOf s c .session)
-    kept c =
-        let h : Good (rowsOf s) (outcomeOf s c .session) = good-call (rowsOf s) s g c in
-        subst (λ (l : List ℕ). Good l (outcomeOf s c .session)) (sym (h .rows)) h
-
-    by : (c : Call) → Kept (callOf s q c .session)
-    by (Arrive row) = kept (asCall q (Arrive row))
-    by Choose = kept (asCall q Choose)
-    by (Advance n) = kept (asCall q (Advance n))
-    by Finish = kept (asCall q Finish)
+use Rattle.transcript.specs.Step.{queueLimit, callOf, answerText, stepOf}
+use Rattle.transcript.specs.Kept.{Kept, kept-call}
 
 -- ---- the values of an answer
 

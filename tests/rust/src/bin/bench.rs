@@ -1,6 +1,9 @@
-//! Times a program against the model on the heaviest inputs.
+//! Times a program against the model on the heaviest inputs, and keeps the inputs
+//! in a folder for other measurements.
 
+use std::fs;
 use std::io::{self, Write};
+use std::path::Path;
 use std::process::{self, Stdio};
 use std::time::Instant;
 
@@ -11,7 +14,8 @@ use shuffle_model::table::{Kind, Row};
 use shuffle_model::text::{leading_rows, run, Command, INPUT_LIMIT};
 
 fn main() {
-    let options = Options::read(&["--program", "--model", "--runs"]);
+    let options = Options::read(&["--program", "--model", "--inputs", "--runs"]);
+    let folder = Path::new(options.required("--inputs"));
     let programs = ["--program", "--model"].map(|name| options.required(name));
     let runs: usize = options.number("--runs", 21);
 
@@ -21,6 +25,7 @@ fn main() {
     print_row("empty: the cost of a start", 0, start, None);
     for (name, input) in inputs() {
         check(name, &input);
+        keep(folder, name, &input);
         let lines = input.iter().filter(|byte| **byte == b'\n').count();
         let times = median_times(&programs, &input, runs);
         print_row(name, lines, times, Some(start));
@@ -72,6 +77,13 @@ fn output_of(program: &str, input: &[u8]) -> io::Result<Vec<u8>> {
     Ok(child.wait_with_output()?.stdout)
 }
 
+/// Keeps an input under its name.
+fn keep(folder: &Path, name: &str, input: &[u8]) {
+    let file = folder.join(name.replace(',', "").replace(' ', "-") + ".txt");
+    fs::write(&file, input)
+        .unwrap_or_else(|error| fail(&format!("{} is not written: {error}", file.display())));
+}
+
 /// Every line but those of T and W must be answered, none as unreadable.
 fn check(name: &str, input: &[u8]) {
     let output = String::from_utf8(run(input)).expect("the model prints text");
@@ -106,6 +118,8 @@ fn inputs() -> Vec<(&'static str, Vec<u8>)> {
         .map(|row| Row::from([1, 40 + row, 40 + row]))
         .collect();
     tight[0].deadline = 10;
+    // The busy length is 360,600.
+    let long_busy = [2, 3, 8, 25, 601, 361_201].map(|period| Row::from([1, period, period]));
     let single = [Row::from([1, 1, 1])];
     let even = [Row::from([1, 32, 32]); 16];
     vec![
@@ -114,6 +128,10 @@ fn inputs() -> Vec<(&'static str, Vec<u8>)> {
             build(&loose, Kind::Loose, short_span),
         ),
         ("16 rows tight", build(&tight, Kind::Tight, whole_span)),
+        (
+            "6 rows tight, long busy length",
+            build(&long_busy, Kind::Tight, whole_span),
+        ),
         ("one row", build(&single, Kind::Loose, whole_span)),
         (
             "choose and finish",
