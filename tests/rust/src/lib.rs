@@ -7,10 +7,17 @@ pub mod driver;
 pub mod inputs;
 pub mod options;
 pub mod process;
+#[cfg(feature = "host")]
+pub mod record;
+#[cfg(feature = "host")]
+pub mod records;
 pub mod rng;
 pub mod runs;
 pub mod session;
 pub mod shrink;
+#[cfg(feature = "host")]
+#[path = "../../../bindings/rust/shuffle.rs"]
+pub mod shuffle;
 pub mod specification;
 pub mod table;
 pub mod tables;

@@ -1,0 +1,298 @@
+//! Compares the library with the model, call by call, on records of any
+//! content: the answer, soundness and every byte of the record.
+
+use std::process::exit;
+use std::time::Instant;
+
+use shuffle_model::options::Options;
+use shuffle_model::record::{expected, expected_budgets, is_sound, replies_agree, view, Request};
+use shuffle_model::records::{around, displace, random_record, random_table, sound_record};
+use shuffle_model::rng::Rng;
+use shuffle_model::runs::{random_command, Style};
+use shuffle_model::session::CLOCK_END;
+use shuffle_model::shuffle::{budget, Reply, Session as Record};
+use shuffle_model::table::Row;
+use shuffle_model::tables::{any_rows, long_busy_rows};
+use shuffle_model::text::{Command, Machine};
+
+const DEFAULT_CALLS: u64 = 1_000_000;
+const DEFAULT_SEED: u64 = 20_250_301;
+/// The answer numbers of the library: 0 to 12.
+const NUMBERS: usize = 13;
+/// Most calls of a history.
+const STEPS: u32 = 400;
+
+/// Where the record of a call comes from.
+#[derive(Clone, Copy, Debug)]
+enum Source {
+    Bytes,
+    Near,
+    History,
+}
+
+const SOURCES: [(Source, &str); 3] = [
+    (Source::Bytes, "random bytes"),
+    (Source::Near, "next to sound"),
+    (Source::History, "histories"),
+];
+
+fn main() {
+    let options = Options::read(&["--calls", "--seed"]);
+    let calls = options.number("--calls", DEFAULT_CALLS);
+    let start = Instant::now();
+    let mut test = Test {
+        rng: Rng::new(options.number("--seed", DEFAULT_SEED)),
+        counts: [[0; NUMBERS]; SOURCES.len()],
+        sound: 0,
+    };
+    while test.calls() < calls {
+        test.round();
+    }
+    let seconds = start.elapsed().as_secs_f64();
+    println!("{}; {seconds:.1} s", test.summary());
+    let missing = test.missing();
+    if !missing.is_empty() {
+        println!("FAILED: never reached: {missing:?}");
+        exit(1);
+    }
+}
+
+struct Test {
+    rng: Rng,
+    /// Calls by source and answer number.
+    counts: [[u64; NUMBERS]; SOURCES.len()],
+    /// Calls on sound records.
+    sound: u64,
+}
+
+impl Test {
+    fn calls(&self) -> u64 {
+        self.counts.iter().flatten().sum()
+    }
+
+    fn calls_of(&self, source: Source) -> u64 {
+        self.counts[source as usize].iter().sum()
+    }
+
+    fn count_of(&self, number: usize) -> u64 {
+        self.counts.iter().map(|counts| counts[number]).sum()
+    }
+
+    fn missing(&self) -> Vec<usize> {
+        let numbers = 0..NUMBERS;
+        numbers
+            .filter(|number| self.count_of(*number) == 0)
+            .collect()
+    }
+
+    /// Some calls on records of the source that has the fewest calls so far.
+    fn round(&mut self) {
+        let sources = SOURCES.map(|(source, _)| source);
+        let fewest = sources
+            .into_iter()
+            .min_by_key(|source| self.calls_of(*source));
+        match fewest.expect("there are sources") {
+            Source::Bytes => {
+                let record = random_record(&mut self.rng);
+                self.each_call(Source::Bytes, &record);
+            }
+            Source::Near => {
+                let mut record = sound_record(&mut self.rng);
+                if self.rng.chance(7, 8) {
+                    displace(&mut self.rng, &mut record);
+                }
+                self.each_call(Source::Near, &record);
+            }
+            Source::History => self.history(),
+        }
+    }
+
+    /// Each of the four calls on its own copy of a record, and now and then an
+    /// admission over it.
+    fn each_call(&mut self, source: Source, record: &Record) {
+        let mut requests = four_calls(&mut self.rng, record);
+        if self.rng.chance(1, 8) {
+            requests.push(Request::Admit(random_words(&mut self.rng)));
+        }
+        for request in requests {
+            let mut copy = *record;
+            self.check(source, &mut copy, &request);
+        }
+    }
+
+    /// A list of calls on one record, each getting what the last one left.
+    fn history(&mut self) {
+        let (mut record, steps) = if self.rng.chance(1, 4) {
+            (sound_record(&mut self.rng), STEPS)
+        } else {
+            self.admission()
+        };
+        let style = Style::random(&mut self.rng);
+        let mut queue = Vec::new();
+        for _ in 0..self.rng.between(1, steps) {
+            if !self.step(&mut record, style, &mut queue) {
+                break;
+            }
+        }
+        self.each_call(Source::History, &record);
+    }
+
+    /// The record of an admission, and how many steps may follow: few if the
+    /// busy length is long, since the model is slow then.
+    fn admission(&mut self) -> (Record, u32) {
+        let rng = &mut self.rng;
+        let mut record = random_record(rng);
+        let (words, steps) = match rng.below(32) {
+            0..3 => (words_of(&long_busy_rows(rng)), 4),
+            3..10 => (random_words(rng), STEPS),
+            _ => (words_of(&random_table(rng)), STEPS),
+        };
+        self.check(Source::History, &mut record, &Request::Admit(words));
+        (record, steps)
+    }
+
+    /// A call of a history; false if the record is not sound any more.
+    fn step(&mut self, record: &mut Record, style: Style, queue: &mut Vec<u32>) -> bool {
+        let Some(session) = view(record).filter(|session| session.is_sound()) else {
+            return false;
+        };
+        let words = std::mem::take(queue);
+        let machine = Machine { session, words };
+        let command = random_command(&machine, &mut self.rng, style);
+        *queue = machine.words;
+        // Now and then a number of more than 32 bits.
+        let wide = u64::from(self.rng.chance(1, 64)) << 32;
+        let request = match command {
+            Command::Word(word) => {
+                queue.push(word);
+                return true;
+            }
+            Command::Arrive(row) => Request::Arrive(wide + u64::from(row)),
+            Command::Choose => Request::Choose(queue.clone()),
+            Command::Advance(ticks) => Request::Advance(wide + u64::from(ticks)),
+            Command::Finish => Request::Finish,
+            Command::Row(_) => unreachable!("a run has no rows"),
+        };
+        let reply = self.check(Source::History, record, &request);
+        queue.drain(..reply.used as usize);
+        true
+    }
+
+    /// Makes a call and compares all that it leads to; a disagreement ends the
+    /// process.
+    fn check(&mut self, source: Source, record: &mut Record, request: &Request) -> Reply {
+        let before = *record;
+        let was_sound = is_sound(&before);
+        let expected = expected(&before, request);
+        let sound_before = before.is_sound();
+        let reply = request.perform(record);
+        let agrees = replies_agree(request, reply, expected.0)
+            && *record == expected.1
+            && sound_before == was_sound
+            && record.is_sound() == is_sound(&expected.1)
+            && budgets_agree(request);
+        if !agrees {
+            print_disagreement(source, &before, request, (reply, *record), expected);
+            exit(1);
+        }
+        self.counts[source as usize][reply.number as usize] += 1;
+        self.sound += u64::from(was_sound);
+        reply
+    }
+
+    fn summary(&self) -> String {
+        let sources = SOURCES.map(|(source, name)| format!("{name} {}", self.calls_of(source)));
+        let answers = (0..NUMBERS).map(|number| format!("{number}:{}", self.count_of(number)));
+        format!(
+            "{} calls agree ({}; {} on sound records); answers {}",
+            self.calls(),
+            sources.join(", "),
+            self.sound,
+            answers.collect::<Vec<_>>().join(" ")
+        )
+    }
+}
+
+/// The four calls with arguments that are next to the limits of this record.
+fn four_calls(rng: &mut Rng, record: &Record) -> Vec<Request> {
+    let Record {
+        clock, count, span, ..
+    } = *record;
+    let row = match rng.below(4) {
+        0 => around(rng, &[0, count, 16, 1 << 32]),
+        _ => rng.draw() % count.max(1),
+    };
+    let ticks = match rng.below(4) {
+        0 => rng.draw() % span.max(1),
+        _ => around(rng, &[0, 1, span, CLOCK_END.wrapping_sub(clock), 1 << 32]),
+    };
+    let words = (0..rng.below(4)).map(|_| rng.draw() as u32 >> rng.below(32));
+    vec![
+        Request::Choose(words.collect()),
+        Request::Arrive(row),
+        Request::Advance(ticks),
+        Request::Finish,
+    ]
+}
+
+fn words_of(rows: &[Row]) -> Vec<u32> {
+    rows.iter().flat_map(Row::numbers).collect()
+}
+
+/// The words of a table, admitted or not, now and then of a wrong length.
+fn random_words(rng: &mut Rng) -> Vec<u32> {
+    let mut words = words_of(&any_rows(rng));
+    match rng.below(16) {
+        0 => words.resize(rng.below(60), 1),
+        1 => words.truncate(rng.below(4)),
+        _ => {}
+    }
+    words
+}
+
+/// Whether the library gives V of each row of an admission, and 0 past them.
+fn budgets_agree(request: &Request) -> bool {
+    let Request::Admit(words) = request else {
+        return true;
+    };
+    let budgets = expected_budgets(words);
+    let past = budgets.len() as u64;
+    let rows_agree = (0..).zip(&budgets).all(|(row, v)| budget(words, row) == *v);
+    rows_agree
+        && [past, 16, 1 << 32, u64::MAX]
+            .iter()
+            .all(|row| budget(words, *row) == 0)
+}
+
+fn print_disagreement(
+    source: Source,
+    before: &Record,
+    request: &Request,
+    library: (Reply, Record),
+    model: (Reply, Record),
+) {
+    println!("DISAGREEMENT on a record of {source:?}");
+    println!("record  {before:?}");
+    println!(
+        "sound   library {}, model {}",
+        before.is_sound(),
+        is_sound(before)
+    );
+    println!("call    {request:?}");
+    for (name, (reply, after)) in [("library", library), ("model", model)] {
+        println!("{name}: {reply:?}");
+        println!("{name} leaves {after:?}");
+    }
+    println!(
+        "sound after: library {}, model {}",
+        library.1.is_sound(),
+        is_sound(&model.1)
+    );
+    if let Request::Admit(words) = request {
+        let budgets: Vec<i64> = (0..18).map(|row| budget(words, row)).collect();
+        println!(
+            "V: library {budgets:?}, model {:?}",
+            expected_budgets(words)
+        );
+    }
+}

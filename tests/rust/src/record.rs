@@ -1,0 +1,202 @@
+//! The model's view of a record of the library, and what each call must make
+//! of the record.
+
+use crate::calls::{perform, Answer, Call};
+use crate::session::{Choice, Job, Session, Slot};
+use crate::shuffle::{self, Reply, Session as Record};
+use crate::table::{admit, budget, compared_range, demand, Kind, Row, ROW_LIMIT};
+
+/// A call of the library with its arguments.
+#[derive(Clone, Debug)]
+pub enum Request {
+    Admit(Vec<u32>),
+    Arrive(u64),
+    Choose(Vec<u32>),
+    Advance(u64),
+    Finish,
+}
+
+impl Request {
+    /// Makes the call.
+    pub fn perform(&self, record: &mut Record) -> Reply {
+        match self {
+            Request::Admit(words) => record.replace(words),
+            Request::Arrive(row) => record.arrive(*row),
+            Request::Choose(words) => record.choose(words),
+            Request::Advance(ticks) => record.advance(*ticks),
+            Request::Finish => record.finish(),
+        }
+    }
+}
+
+/// The rows of words, three to a row.
+pub fn rows_of(words: &[u32]) -> Vec<Row> {
+    let rows = words.chunks_exact(3);
+    rows.map(|row| Row::from([row[0], row[1], row[2]]))
+        .collect()
+}
+
+/// The session that a record holds, unless its numbers are those of none. A
+/// session of the model may still be unsound.
+pub fn view(record: &Record) -> Option<Session> {
+    let kind = match record.kind {
+        1 => Kind::Loose,
+        2 => Kind::Tight,
+        _ => return None,
+    };
+    let count = usize::try_from(record.count).ok();
+    let count = count.filter(|count| *count <= ROW_LIMIT)?;
+    let slots = record.jobs[..count].iter().map(view_slot);
+    Some(Session {
+        clock: record.clock,
+        rows: rows_of(&record.words[..3 * count]),
+        kind,
+        slots: slots.collect::<Option<_>>()?,
+        choice: match record.span {
+            0 => None,
+            left => Some(Choice {
+                row: u32::try_from(record.chosen).ok()?,
+                left,
+            }),
+        },
+    })
+}
+
+fn view_slot(job: &shuffle::Job) -> Option<Slot> {
+    let waiting = match job.left {
+        0 => None,
+        left => Some(Job {
+            due: job.due,
+            left,
+            budget: i64::try_from(job.budget).ok()?,
+        }),
+    };
+    Some(Slot {
+        next: job.next,
+        job: waiting,
+    })
+}
+
+/// Whether the specification calls the record sound.
+pub fn is_sound(record: &Record) -> bool {
+    view(record).is_some_and(|session| session.is_sound())
+}
+
+/// The answer that a call must give, and the record that it must leave.
+pub fn expected(record: &Record, request: &Request) -> (Reply, Record) {
+    match request {
+        Request::Admit(words) => expected_admission(words),
+        // The model's numbers are of 32 bits. Any greater row is not in the
+        // table, as the greatest of 32 bits is not.
+        Request::Arrive(row) => {
+            let (mut reply, after) = expected_call(record, Call::Arrive(narrow(*row)));
+            if reply.number == 6 {
+                reply.first = *row;
+            }
+            (reply, after)
+        }
+        Request::Choose(words) => expected_call(record, Call::Choose(words)),
+        // Any greater number is above the ticks left of a sound session.
+        Request::Advance(ticks) => expected_call(record, Call::Advance(narrow(*ticks))),
+        Request::Finish => expected_call(record, Call::Finish),
+    }
+}
+
+fn narrow(number: u64) -> u32 {
+    u32::try_from(number).unwrap_or(u32::MAX)
+}
+
+fn expected_admission(words: &[u32]) -> (Reply, Record) {
+    match admit(words) {
+        Err(refusal) => {
+            let [first, second] = refusal.values;
+            let reply = reply(refusal.number, 0, first, second);
+            (reply, Record::NONE)
+        }
+        Ok(table) => {
+            let mut fresh = Record {
+                kind: table.kind as u64,
+                count: table.rows.len() as u64,
+                ..Record::NONE
+            };
+            fresh.words[..words.len()].copy_from_slice(words);
+            (reply(0, 0, fresh.kind, fresh.count), fresh)
+        }
+    }
+}
+
+fn reply(number: u32, used: usize, first: u64, second: u64) -> Reply {
+    Reply {
+        number: u64::from(number),
+        used: used as u64,
+        first,
+        second,
+    }
+}
+
+fn expected_call(record: &Record, call: Call) -> (Reply, Record) {
+    let Some(mut session) = view(record) else {
+        return (reply(5, 0, 0, 0), *record);
+    };
+    let Answer {
+        number,
+        values: [first, second],
+        words_used,
+    } = perform(&mut session, call);
+    let mut after = *record;
+    if number == 0 {
+        store(&mut after, &session);
+    }
+    (reply(number, words_used, first, second), after)
+}
+
+/// Writes what calls may change of a session into its record: clock, jobs and
+/// choice. Where no job waited before or after, only the earliest next arrival
+/// is set.
+pub fn store(record: &mut Record, session: &Session) {
+    record.clock = session.clock;
+    for (job, slot) in record.jobs.iter_mut().zip(&session.slots) {
+        let next = slot.next;
+        *job = match slot.job {
+            Some(Job { due, left, budget }) => shuffle::Job {
+                next,
+                due,
+                left,
+                budget: budget as u64,
+            },
+            None if job.left == 0 => shuffle::Job { next, ..*job },
+            None => shuffle::Job {
+                next,
+                ..shuffle::Job::default()
+            },
+        };
+    }
+    let choice = session.choice.map(|choice| (choice.row, choice.left));
+    let (row, left) = choice.unwrap_or_default();
+    record.chosen = u64::from(row);
+    record.span = left;
+}
+
+/// Whether an answer is the expected one, or the same refusal 3 by another
+/// tick that the specification allows.
+pub fn replies_agree(request: &Request, actual: Reply, expected: Reply) -> bool {
+    let is_overload = |words: &[u32]| {
+        let rows = rows_of(words);
+        (1..=compared_range(&rows)).contains(&actual.first)
+            && demand(&rows, actual.first) == actual.second
+            && actual.second > actual.first
+    };
+    actual == expected
+        || match request {
+            Request::Admit(words) if expected.number == 3 => {
+                actual.number == 3 && actual.used == 0 && is_overload(words)
+            }
+            _ => false,
+        }
+}
+
+/// V of each row of a table; none if the table is refused.
+pub fn expected_budgets(words: &[u32]) -> Vec<i64> {
+    let rows = admit(words).map_or(Vec::new(), |table| table.rows);
+    (0..rows.len()).map(|row| budget(&rows, row)).collect()
+}
