@@ -1,0 +1,215 @@
+// The shuffled earliest-deadline scheduler: a safe binding to the library.
+//
+// One file to use as a module (`mod shuffle;`, `#[path = ..]` or `include!`), with or without the
+// standard library. Link with `-L native=<folder> -l static=host`. What the calls mean is in
+// docs/SPECIFICATION.md, section 5. The library keeps nothing, has no global state and allocates
+// nothing; calls on different sessions may run on different threads.
+
+use core::mem::{offset_of, size_of};
+
+/// The row number that stands for idle.
+pub const IDLE: u64 = 16;
+/// Most rows in a table.
+pub const ROWS: usize = 16;
+/// The longest T, and the longest span of a choice, in ticks.
+pub const HORIZON: u64 = 1_000_000;
+/// The last tick that the clock may show.
+pub const CLOCK_END: u64 = 1 << 53;
+/// The kind of a table in which no V is negative.
+pub const LOOSE: u64 = 1;
+/// The kind of the other admitted tables; in a session of it every budget is 0.
+pub const TIGHT: u64 = 2;
+
+/// The numbers of an answer; a value that is not named is 0. If several refusals hold, the lowest
+/// number is given.
+pub mod number {
+    /// Accepted. Admit: kind, number of rows. Arrive: row, deadline. Choose: row or 16 for idle,
+    /// span. Advance: ticks left, 1 if the job is over. Finish: row, unused ticks.
+    pub const ACCEPTED: u64 = 0;
+    /// Admit: the length is 0, above 48 or no multiple of 3. Values: length.
+    pub const BAD_LENGTH: u64 = 1;
+    /// Admit: a row breaks 1 ≤ C ≤ D ≤ T ≤ 1,000,000. Values: the first such row.
+    pub const BAD_ROW: u64 = 2;
+    /// Admit: the demand exceeds the time. Values: some t with demand above t, the demand at t.
+    pub const OVERLOAD: u64 = 3;
+    /// Admit: no overload found, but no busy length up to the horizon. Values: 1,000,000.
+    pub const UNSETTLED: u64 = 4;
+    /// Any of the four calls: the session is not sound.
+    pub const UNSOUND: u64 = 5;
+    /// Arrive: the row is not in the table. Values: row.
+    pub const NO_ROW: u64 = 6;
+    /// Arrive: too early. Values: row, earliest next arrival.
+    pub const TOO_EARLY: u64 = 7;
+    /// Choose: a choice is in force. Values: its ticks left.
+    pub const IN_FORCE: u64 = 8;
+    /// Advance or finish: no choice is in force.
+    pub const NO_CHOICE: u64 = 9;
+    /// Advance: the ticks are 0 or above the ticks left. Values: ticks left.
+    pub const BAD_STEP: u64 = 10;
+    /// Finish: idle is running.
+    pub const IDLING: u64 = 11;
+    /// Advance: the clock would pass its end. Values: 2^53.
+    pub const CLOCK_ENDS: u64 = 12;
+}
+
+/// What is held for a row. A job waits from its arrival until it is over, running or not.
+#[repr(C)]
+#[derive(Clone, Copy, Debug, Default, PartialEq, Eq)]
+pub struct Job {
+    /// The earliest next arrival.
+    pub next: u64,
+    /// The waiting job's deadline.
+    pub due: u64,
+    /// Its remaining ticks; 0 if no job of the row waits.
+    pub left: u64,
+    /// Its budget left: how long later jobs and idle may still run before it.
+    pub budget: u64,
+}
+
+/// The record of a session. Every content is allowed: on a session that is not sound the four calls
+/// answer 5 and leave it as it is.
+///
+/// Not looked at by the calls: words and jobs past the last row, due and budget of a row whose left
+/// is 0, and chosen if span is 0. In a session that the library made these are 0.
+#[repr(C)]
+#[derive(Clone, Copy, Debug, PartialEq, Eq)]
+pub struct Session {
+    /// Ticks since admission.
+    pub clock: u64,
+    /// `LOOSE` or `TIGHT`.
+    pub kind: u64,
+    /// The number of rows.
+    pub count: u64,
+    /// Three to a row: C (longest run), T (least time between arrivals), D (time from arrival to
+    /// deadline).
+    pub words: [u32; 3 * ROWS],
+    /// Of row i in place i.
+    pub jobs: [Job; ROWS],
+    /// The choice in force: a row, or `IDLE`.
+    pub chosen: u64,
+    /// Its ticks left; 0 if no choice is in force.
+    pub span: u64,
+}
+
+/// An answer: its number, how many words a choice used, and two values (see `number`).
+#[repr(C)]
+#[derive(Clone, Copy, Debug, PartialEq, Eq)]
+pub struct Reply {
+    /// One of the numbers in `number`.
+    pub number: u64,
+    /// 0 to 2 for a choice, 0 for all else.
+    pub used: u64,
+    /// The first value.
+    pub first: u64,
+    /// The second value.
+    pub second: u64,
+}
+
+// The library reads and writes these places. No byte of a record is padding.
+const _: () = {
+    assert!(size_of::<Job>() == 32);
+    assert!(offset_of!(Job, next) == 0);
+    assert!(offset_of!(Job, due) == 8);
+    assert!(offset_of!(Job, left) == 16);
+    assert!(offset_of!(Job, budget) == 24);
+    assert!(size_of::<Session>() == 744);
+    assert!(offset_of!(Session, clock) == 0);
+    assert!(offset_of!(Session, kind) == 8);
+    assert!(offset_of!(Session, count) == 16);
+    assert!(offset_of!(Session, words) == 24);
+    assert!(offset_of!(Session, jobs) == 216);
+    assert!(offset_of!(Session, chosen) == 728);
+    assert!(offset_of!(Session, span) == 736);
+    assert!(size_of::<Reply>() == 32);
+    assert!(offset_of!(Reply, number) == 0);
+    assert!(offset_of!(Reply, used) == 8);
+    assert!(offset_of!(Reply, first) == 16);
+    assert!(offset_of!(Reply, second) == 24);
+    assert!(size_of::<usize>() == 8);
+};
+
+// SAFETY: these are the library's signatures. A function that takes no raw pointer is safe: a
+// reference is never null, is aligned, and is not shared while it may be changed.
+unsafe extern "C" {
+    fn shuffle_admit(session: &mut Session, words: *const u32, n: usize) -> Reply;
+    safe fn shuffle_arrive(session: &mut Session, row: u64) -> Reply;
+    fn shuffle_choose(session: &mut Session, words: *const u32, n: usize) -> Reply;
+    safe fn shuffle_advance(session: &mut Session, n: u64) -> Reply;
+    safe fn shuffle_finish(session: &mut Session) -> Reply;
+    safe fn shuffle_is_sound(session: &Session) -> u32;
+    fn shuffle_budget(words: *const u32, n: usize, row: u64) -> i64;
+}
+
+impl Reply {
+    /// Whether the call was accepted.
+    pub fn is_accepted(&self) -> bool {
+        self.number == number::ACCEPTED
+    }
+}
+
+impl Session {
+    /// No session: it has no rows, so every call on it answers 5.
+    pub const NONE: Session = Session {
+        clock: 0,
+        kind: 0,
+        count: 0,
+        words: [0; 3 * ROWS],
+        jobs: [Job {
+            next: 0,
+            due: 0,
+            left: 0,
+            budget: 0,
+        }; ROWS],
+        chosen: 0,
+        span: 0,
+    };
+
+    /// Admits a table, three words to a row: C, T, D. Gives the fresh session, or `NONE` with a
+    /// refusal from 1 to 4.
+    pub fn admit(words: &[u32]) -> (Reply, Session) {
+        let mut session = Session::NONE;
+        let reply = session.replace(words);
+        (reply, session)
+    }
+
+    /// Admits a table in place of whatever this session held.
+    pub fn replace(&mut self, words: &[u32]) -> Reply {
+        // SAFETY: pointer and length of one slice, never null, also for an empty one; the slice
+        // cannot overlap the record, which is borrowed for change.
+        unsafe { shuffle_admit(self, words.as_ptr(), words.len()) }
+    }
+
+    /// A job of the row arrives now; a choice in force is dropped. Refusals: 5, 6, 7.
+    pub fn arrive(&mut self, row: u64) -> Reply {
+        shuffle_arrive(self, row)
+    }
+
+    /// Chooses what runs next, by random words, of which the first two at most are looked at.
+    /// Without words the earliest deadline runs. Refusals: 5, 8.
+    pub fn choose(&mut self, words: &[u32]) -> Reply {
+        // SAFETY: as for `replace`.
+        unsafe { shuffle_choose(self, words.as_ptr(), words.len()) }
+    }
+
+    /// The choice in force ran for these ticks. Refusals: 5, 9, 10, 12.
+    pub fn advance(&mut self, ticks: u64) -> Reply {
+        shuffle_advance(self, ticks)
+    }
+
+    /// The chosen job has finished early. Refusals: 5, 9, 11.
+    pub fn finish(&mut self) -> Reply {
+        shuffle_finish(self)
+    }
+
+    /// Whether the session is sound, so that the four calls do not answer 5.
+    pub fn is_sound(&self) -> bool {
+        shuffle_is_sound(self) == 1
+    }
+}
+
+/// V of a row of a table: the budget before it is taken as 0 in a tight session, so it may be
+/// negative. 0 if the table is refused or has no such row.
+pub fn budget(words: &[u32], row: u64) -> i64 {
+    // SAFETY: pointer and length of one slice, never null, also for an empty one.
+    unsafe { shuffle_budget(words.as_ptr(), words.len(), row) }
+}

@@ -1,0 +1,2 @@
+mod Result
+mod Read

@@ -1,0 +1,128 @@
+// The library for C: the calls on a session record of the host, and what a table's rows are given
+// (docs/SPECIFICATION.md §9). A slice passes as a pointer and a length.
+ghost use mathlib.Core.Path.{_≡_};
+ghost use Rattle.session.specs.Calls.{arriveOf, chooseOf, advanceOf, finishOf};
+ghost use Rattle.host.specs.Reply.{replyOf, verdictOf, Opened};
+ghost use Rattle.host.specs.Numbers.{soundNumber, budgetAt};
+use session::Outcome;
+use session::Session;
+use session::admit::Admission;
+use session::sound::is_sound;
+
+// An answer in numbers (`shown` gives them): its number, 0 where the call is accepted; the words that a choice used; and
+// two values.
+#[repr(C)]
+pub struct Reply {
+    pub number: u64,
+    pub used: u64,
+    pub first: u64,
+    pub second: u64,
+}
+
+fn seen(o: Outcome) -> Reply
+    ensures { λ r. ⌜ r ≡ replyOf o ⌝ }
+{
+    let answer = o.answer;
+    let n = session::show(answer);
+    Reply {
+        number: n.number,
+        used: o.used,
+        first: n.first,
+        second: n.second,
+    }
+}
+
+// A verdict uses no word.
+fn judged(a: Admission) -> Reply
+    ensures { λ r. ⌜ r ≡ verdictOf a ⌝ }
+{
+    let assessment = a.assessment;
+    let verdict = assessment.verdict;
+    let v = table::shown(verdict);
+    Reply {
+        number: v.number,
+        used: 0,
+        first: v.first,
+        second: v.second,
+    }
+}
+
+fn sound_number(s: Session) -> u32
+    ensures { λ r. ⌜ r ≡ soundNumber s ⌝ }
+{
+    if is_sound(s) {
+        return 1;
+    }
+    0
+}
+
+// What the record held before does not matter.
+#[no_mangle]
+pub extern "C" fn shuffle_admit(s: &mut Session, words: &[u32]) -> Reply
+    ensures { λ r. ⌜ Opened (now (words .entry)) r (now (s .exit)) ⌝ }
+{
+    let a = session::admit::admit(words);
+    *s = a.session;
+    judged(a)
+}
+
+#[no_mangle]
+pub extern "C" fn shuffle_arrive(s: &mut Session, row: u64) -> Reply
+    ensures { λ r. ⌜ (r ≡ replyOf (arriveOf (now (s .entry)) row)) × (now (s .exit) ≡ arriveOf (now (s .entry)) row .session) ⌝ }
+{
+    let o = calls::arrive::arrive(*s, row);
+    *s = o.session;
+    seen(o)
+}
+
+#[no_mangle]
+pub extern "C" fn shuffle_choose(s: &mut Session, words: &[u32]) -> Reply
+    ensures { λ r. ⌜ (r ≡ replyOf (chooseOf (now (s .entry)) (now (words .entry)))) × (now (s .exit) ≡ chooseOf (now (s .entry)) (now (words .entry)) .session) ⌝ }
+{
+    let o = choice::choose(*s, words);
+    *s = o.session;
+    seen(o)
+}
+
+#[no_mangle]
+pub extern "C" fn shuffle_advance(s: &mut Session, n: u64) -> Reply
+    ensures { λ r. ⌜ (r ≡ replyOf (advanceOf (now (s .entry)) n)) × (now (s .exit) ≡ advanceOf (now (s .entry)) n .session) ⌝ }
+{
+    let o = calls::advance::advance(*s, n);
+    *s = o.session;
+    seen(o)
+}
+
+#[no_mangle]
+pub extern "C" fn shuffle_finish(s: &mut Session) -> Reply
+    ensures { λ r. ⌜ (r ≡ replyOf (finishOf (now (s .entry)))) × (now (s .exit) ≡ finishOf (now (s .entry)) .session) ⌝ }
+{
+    let o = calls::finish::finish(*s);
+    *s = o.session;
+    seen(o)
+}
+
+#[no_mangle]
+pub extern "C" fn shuffle_is_sound(s: &Session) -> u32
+    ensures { λ r. ⌜ r ≡ soundNumber (now (s .entry)) ⌝ }
+{
+    sound_number(*s)
+}
+
+// V of a row; 0 where the table is refused or has no such row.
+#[no_mangle]
+pub extern "C" fn shuffle_budget(words: &[u32], row: u64) -> i64
+    ensures { λ r. ⌜ r ≡ budgetAt (now (words .entry)) row ⌝ }
+{
+    let a = table::assess(words);
+    let verdict = a.verdict;
+    let n = table::shown(verdict);
+    if n.number != 0 {
+        return 0;
+    }
+    if n.second <= row {
+        return 0;
+    }
+    let budgets = a.budgets;
+    budgets[row as usize]
+}

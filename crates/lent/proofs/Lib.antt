@@ -1,0 +1,9 @@
+pub mod Data
+pub mod Records
+pub mod Slice
+pub mod View
+pub mod Number
+pub mod Alone
+pub mod Words
+pub mod Fresh
+mod Result

@@ -1,0 +1,272 @@
+//! A host in Rust: it drives a plant of four tasks for some simulated minutes and prints the
+//! schedule. A tick is a millisecond.
+//!
+//!     rustc --edition 2021 -L native=target/staticlib -l static=host examples/hosts/plant.rs
+//!
+//! Argument: the ticks to simulate, 180,000 if none is given. Status 1 if a job was late or a call
+//! was refused that should not be. plant.c is the same host in C and prints the same.
+
+// A host need not use all of the binding.
+#[allow(dead_code)]
+#[path = "../../bindings/rust/shuffle.rs"]
+mod shuffle;
+
+use std::process::exit;
+
+use shuffle::{number, Reply, Session, IDLE};
+
+const TASKS: usize = 4;
+const STRIP: usize = 300;
+const STRIP_LINE: usize = 100;
+
+/// C, T, D of each row.
+const TABLE: [[u32; 3]; TASKS] = [[2, 20, 20], [3, 30, 25], [8, 60, 50], [5, 100, 100]];
+
+const NAMES: [&str; TASKS + 1] = ["valve", "motor", "camera", "radio", "idle"];
+
+/// What the host itself knows of a task; it trusts the library for none of it.
+#[derive(Clone, Copy, Default)]
+struct Task {
+    /// The tick of its next arrival.
+    arrival: u64,
+    /// The tick at which the last arrival is reported a second time, or 0.
+    bounce: u64,
+    /// The deadline of its job.
+    due: u64,
+    /// The ticks that the job needs, C at most; 0 if no job waits.
+    need: u64,
+    /// The ticks that it got.
+    ran: u64,
+}
+
+struct Plant {
+    session: Session,
+    tasks: [Task; TASKS],
+    clock: u64,
+    chosen: u64,
+    /// Ticks left of the choice; 0 if none is in force.
+    span: u64,
+    random: u64,
+    jobs: u64,
+    early: u64,
+    late: u64,
+    calls: u64,
+    refused: u64,
+    faults: u64,
+    strip: [[u8; STRIP]; TASKS + 1],
+}
+
+impl Plant {
+    fn start() -> Self {
+        let (reply, session) = Session::admit(TABLE.as_flattened());
+        let mut plant = Plant {
+            session,
+            tasks: [Task::default(); TASKS],
+            clock: 0,
+            chosen: 0,
+            span: 0,
+            random: 2026,
+            jobs: 0,
+            early: 0,
+            late: 0,
+            calls: 0,
+            refused: 0,
+            faults: 0,
+            strip: [[b' '; STRIP]; TASKS + 1],
+        };
+        plant.count(reply, number::ACCEPTED);
+        plant
+    }
+
+    /// SplitMix64; a real host draws its words from a source that nobody can guess.
+    fn draw(&mut self) -> u64 {
+        self.random = self.random.wrapping_add(0x9e37_79b9_7f4a_7c15);
+        let mut z = self.random;
+        z = (z ^ (z >> 30)).wrapping_mul(0xbf58_476d_1ce4_e5b9);
+        z = (z ^ (z >> 27)).wrapping_mul(0x94d0_49bb_1331_11eb);
+        z ^ (z >> 31)
+    }
+
+    /// Counts a call; any other answer than the expected one is a fault.
+    fn count(&mut self, reply: Reply, expected: u64) {
+        self.calls += 1;
+        self.refused += u64::from(!reply.is_accepted());
+        if reply.number != expected {
+            self.faults += 1;
+            eprintln!(
+                "tick {}: answer {} ({}, {})",
+                self.clock, reply.number, reply.first, reply.second
+            );
+        }
+    }
+
+    /// A job arrives: it often needs all of C, and the next one comes T later or more.
+    fn arrive(&mut self, row: usize) {
+        let [c, least_gap, d] = TABLE[row].map(u64::from);
+        let reply = self.session.arrive(row as u64);
+        self.count(reply, number::ACCEPTED);
+        self.span = 0;
+        self.jobs += 1;
+        self.late += u64::from(self.tasks[row].need != 0);
+        let clock = self.clock;
+        let mut task = Task {
+            due: clock + d,
+            arrival: clock + least_gap,
+            ..Task::default()
+        };
+        let is_short = self.draw() % 4 == 0;
+        task.need = if is_short { 1 + self.draw() % c } else { c };
+        if self.draw() % 16 == 0 {
+            task.bounce = clock + 1 + self.draw() % (least_gap - 1);
+        }
+        if self.draw() % 3 == 0 {
+            task.arrival += self.draw() % least_gap;
+        }
+        self.tasks[row] = task;
+        if let Some(place) = self.strip[row].get_mut(clock as usize) {
+            *place = b'|';
+        }
+    }
+
+    /// Arrivals that are due now. One that is reported a second time is too early, and refused.
+    fn arrivals(&mut self) {
+        for row in 0..TASKS {
+            if self.tasks[row].arrival == self.clock {
+                self.arrive(row);
+            } else if self.tasks[row].bounce == self.clock {
+                let reply = self.session.arrive(row as u64);
+                self.count(reply, number::TOO_EARLY);
+                self.tasks[row].bounce = 0;
+            }
+        }
+    }
+
+    fn choose(&mut self) {
+        let bits = self.draw();
+        let reply = self.session.choose(&[bits as u32, (bits >> 32) as u32]);
+        self.count(reply, number::ACCEPTED);
+        self.chosen = reply.first;
+        self.span = reply.second;
+    }
+
+    /// The job of the chosen task is over.
+    fn end_job(&mut self) {
+        let task = &mut self.tasks[self.chosen as usize];
+        self.late += u64::from(task.due < self.clock);
+        task.need = 0;
+    }
+
+    /// Ticks up to the next moment at which the host has to act.
+    fn step_length(&self, end: u64) -> u64 {
+        let mut ticks = self.span.min(end - self.clock);
+        for (row, task) in (0..).zip(&self.tasks) {
+            ticks = ticks.min(task.arrival - self.clock);
+            if task.bounce > self.clock {
+                ticks = ticks.min(task.bounce - self.clock);
+            }
+            if row == self.chosen {
+                ticks = ticks.min(task.need - task.ran);
+            }
+        }
+        ticks
+    }
+
+    /// Marks the next ticks in the strip.
+    fn mark(&mut self, ticks: u64) {
+        for tick in self.clock as usize..STRIP.min((self.clock + ticks) as usize) {
+            for (row, task) in self.tasks.iter().enumerate() {
+                let place = &mut self.strip[row][tick];
+                if row as u64 == self.chosen {
+                    *place = if *place == b'|' { b'@' } else { b'#' };
+                } else if task.need != 0 && *place == b' ' {
+                    *place = b'.';
+                }
+            }
+            if self.chosen == IDLE {
+                self.strip[TASKS][tick] = b'#';
+            }
+        }
+    }
+
+    fn advance(&mut self, ticks: u64) {
+        self.mark(ticks);
+        let reply = self.session.advance(ticks);
+        self.count(reply, number::ACCEPTED);
+        self.clock += ticks;
+        self.span = reply.first;
+        if let Some(task) = self.tasks.get_mut(self.chosen as usize) {
+            task.ran += ticks;
+            if reply.second == 1 {
+                self.end_job();
+            }
+        }
+    }
+
+    /// The chosen job has done its work before C ticks.
+    fn finish(&mut self) {
+        let reply = self.session.finish();
+        self.count(reply, number::ACCEPTED);
+        self.span = 0;
+        self.early += 1;
+        self.end_job();
+    }
+
+    /// A job whose span ended with its work is finished when it is chosen again.
+    fn step(&mut self, end: u64) {
+        self.arrivals();
+        if self.span == 0 {
+            self.choose();
+        }
+        let task = self.tasks.get(self.chosen as usize);
+        if task.is_some_and(|task| task.ran == task.need) {
+            self.finish();
+        } else {
+            self.advance(self.step_length(end));
+        }
+    }
+
+    fn print_strip(&self, end: u64) {
+        let shown = STRIP.min(end as usize);
+        println!("| arrives, . waits, # runs, @ arrives and runs\n");
+        for from in (0..shown).step_by(STRIP_LINE) {
+            let to = shown.min(from + STRIP_LINE);
+            print!("{:<8}", "tick");
+            for tick in (from..to).step_by(10) {
+                print!("{tick:<10}");
+            }
+            println!();
+            for (name, strip) in NAMES.iter().zip(&self.strip) {
+                println!("{name:<8}{}", String::from_utf8_lossy(&strip[from..to]));
+            }
+            println!();
+        }
+    }
+
+    fn print_summary(&self) {
+        let waiting = self.tasks.iter().filter(|task| task.need != 0).count();
+        println!(
+            "ticks {}; jobs {}, finished early {}, waiting at the end {waiting}, late {}",
+            self.clock, self.jobs, self.early, self.late
+        );
+        println!(
+            "calls {}, refused {}, answered otherwise than expected {}",
+            self.calls, self.refused, self.faults
+        );
+    }
+}
+
+fn main() {
+    let argument = std::env::args().nth(1);
+    let end = argument.map_or(180_000, |text| text.parse().expect("a number of ticks"));
+    let mut plant = Plant::start();
+    // After a fault nothing more can be relied on.
+    while plant.clock < end && plant.faults == 0 {
+        plant.step(end);
+    }
+    // Jobs that still wait at their deadline are late too.
+    let is_late = |task: &&Task| task.need != 0 && task.due <= plant.clock;
+    plant.late += plant.tasks.iter().filter(is_late).count() as u64;
+    plant.print_strip(end);
+    plant.print_summary();
+    exit(i32::from(plant.late != 0 || plant.faults != 0));
+}

@@ -1,0 +1,187 @@
+/*
+ * The shuffled earliest-deadline scheduler: the library for C and C++.
+ *
+ * One processor, whole ticks, sporadic jobs. The host keeps a record, the
+ * session. Each call takes the record, changes it and gives an answer. What the
+ * calls mean is in docs/SPECIFICATION.md, section 5. The calls are proved to do
+ * what is written there, for every content of the record and every argument.
+ *
+ * Ownership. The caller owns the record and the words; the library keeps no
+ * pointer, has no global state, allocates nothing and needs no setup. Of the C
+ * library it calls memcpy and memset only.
+ *
+ * Threads. Calls on different records may run at the same time. A record must
+ * not be used by two calls at a time.
+ *
+ * Pointers must not be null, also where n is 0, and must be aligned for their
+ * type. They must point to a whole record, or to n words. The words must not
+ * overlap the record.
+ *
+ * Contents. A record of any content may be handed in; if it is not sound
+ * (section 5.2), the four calls answer 5. What these comments promise holds on
+ * x86-64 with the System V calling convention, for which the library is built.
+ */
+#ifndef SHUFFLE_H
+#define SHUFFLE_H
+
+#include <stddef.h>
+#include <stdint.h>
+
+#ifdef __cplusplus
+extern "C" {
+#endif
+
+/* Most rows in a table, and most words: three to a row. */
+#define SHUFFLE_ROWS 16
+#define SHUFFLE_WORDS 48
+
+/* The row number that stands for idle. */
+#define SHUFFLE_IDLE UINT64_C(16)
+
+/* The longest T, and the longest span of a choice, in ticks. */
+#define SHUFFLE_HORIZON UINT64_C(1000000)
+
+/* The last tick that the clock may show: 2 to the 53rd. */
+#define SHUFFLE_CLOCK_END UINT64_C(9007199254740992)
+
+/* The kinds of an admitted table. In a tight session every budget is 0. */
+#define SHUFFLE_LOOSE UINT64_C(1)
+#define SHUFFLE_TIGHT UINT64_C(2)
+
+/*
+ * The numbers of an answer, each with its two values. A value that is not named
+ * is 0. If several refusals hold, the lowest number is given.
+ */
+enum shuffle_number {
+    /*
+     * Accepted. Admit: kind, number of rows. Arrive: row, deadline. Choose: row
+     * or 16 for idle, span. Advance: ticks left, 1 if the job is over (else 0).
+     * Finish: row, unused ticks.
+     */
+    SHUFFLE_ACCEPTED = 0,
+
+    /* Refusals of a table; the record then has no rows. */
+
+    /* n is 0, above 48 or no multiple of 3. Values: n. */
+    SHUFFLE_BAD_LENGTH = 1,
+    /* A row breaks 1 <= C <= D <= T <= 1,000,000. Values: the first such row. */
+    SHUFFLE_BAD_ROW = 2,
+    /* The demand exceeds the time. Values: some t with demand above t, and the demand at t. */
+    SHUFFLE_OVERLOAD = 3,
+    /* No overload found, but no busy length up to the horizon. Values: 1,000,000. */
+    SHUFFLE_UNSETTLED = 4,
+
+    /* Refusals of the four calls; the record stays as it was. */
+
+    /* Any of the four calls: the record is not sound. Values: none. */
+    SHUFFLE_UNSOUND = 5,
+    /* Arrive: the row is not in the table. Values: row. */
+    SHUFFLE_NO_ROW = 6,
+    /* Arrive: too early. Values: row, earliest next arrival. */
+    SHUFFLE_TOO_EARLY = 7,
+    /* Choose: a choice is in force. Values: its ticks left. */
+    SHUFFLE_IN_FORCE = 8,
+    /* Advance or finish: no choice is in force. Values: none. */
+    SHUFFLE_NO_CHOICE = 9,
+    /* Advance: n is 0 or above the ticks left. Values: ticks left. */
+    SHUFFLE_BAD_STEP = 10,
+    /* Finish: idle is running. Values: none. */
+    SHUFFLE_IDLING = 11,
+    /* Advance: the clock would pass its end. Values: 2 to the 53rd. */
+    SHUFFLE_CLOCK_ENDS = 12
+};
+
+/* What is held for a row. A job waits from its arrival until it is over, whether it runs or not. */
+typedef struct shuffle_job {
+    uint64_t next;   /* the earliest next arrival */
+    uint64_t due;    /* the waiting job's deadline */
+    uint64_t left;   /* its remaining ticks; 0: no job of the row waits */
+    uint64_t budget; /* its budget left: how long later jobs and idle may still run before it */
+} shuffle_job;
+
+/*
+ * The session. Hosts may read every field. Not looked at by the calls: words and
+ * jobs past the last row, due and budget of a row whose left is 0, and chosen if
+ * span is 0. In a record that the library made these are 0.
+ */
+typedef struct shuffle_session {
+    uint64_t clock; /* ticks since admission */
+    uint64_t kind;  /* SHUFFLE_LOOSE or SHUFFLE_TIGHT */
+    uint64_t count; /* the number of rows, 1 to 16 */
+    /* Three to a row: C (longest run), T (least time between arrivals), D (from arrival to deadline). */
+    uint32_t words[SHUFFLE_WORDS];
+    shuffle_job jobs[SHUFFLE_ROWS]; /* of row i in place i */
+    uint64_t chosen;                /* the choice in force: a row, or 16 for idle */
+    uint64_t span;                  /* its ticks left; 0: no choice is in force */
+} shuffle_session;
+
+/* An answer: its number, how many words a choice used (0 to 2; 0 for all else), and two values. */
+typedef struct shuffle_reply {
+    uint64_t number; /* one of enum shuffle_number */
+    uint64_t used;
+    uint64_t first;
+    uint64_t second;
+} shuffle_reply;
+
+/*
+ * Admits a table of n words, three to a row: C, T, D. The record need not hold
+ * anything before. Accepted: it becomes the fresh session. Refused (1 to 4): it
+ * becomes a record of zeros, which has no rows; every call on it answers 5.
+ */
+shuffle_reply shuffle_admit(shuffle_session *session, const uint32_t *words, size_t n);
+
+/* A job of the row arrives now. A choice in force is dropped. Refusals: 5, 6, 7. */
+shuffle_reply shuffle_arrive(shuffle_session *session, uint64_t row);
+
+/*
+ * Chooses what runs next, by n random words, of which the first two at most are
+ * looked at. Without words the earliest deadline runs. Refusals: 5, 8.
+ */
+shuffle_reply shuffle_choose(shuffle_session *session, const uint32_t *words, size_t n);
+
+/* The choice in force ran for n ticks. Refusals: 5, 9, 10, 12. */
+shuffle_reply shuffle_advance(shuffle_session *session, uint64_t n);
+
+/* The chosen job has finished early. Refusals: 5, 9, 11. */
+shuffle_reply shuffle_finish(shuffle_session *session);
+
+/* 1 if the record is sound, else 0. */
+uint32_t shuffle_is_sound(const shuffle_session *session);
+
+/*
+ * V of a row of a table of n words: the budget before it is taken as 0 in a
+ * tight session, so it may be negative. 0 if the table is refused or has no such
+ * row.
+ */
+int64_t shuffle_budget(const uint32_t *words, size_t n, uint64_t row);
+
+#ifdef __cplusplus
+}
+#define SHUFFLE_CHECK(condition) static_assert(condition, #condition)
+#else
+#define SHUFFLE_CHECK(condition) _Static_assert(condition, #condition)
+#endif
+
+/* The library reads and writes these places. */
+SHUFFLE_CHECK(sizeof(shuffle_job) == 32);
+SHUFFLE_CHECK(offsetof(shuffle_job, next) == 0);
+SHUFFLE_CHECK(offsetof(shuffle_job, due) == 8);
+SHUFFLE_CHECK(offsetof(shuffle_job, left) == 16);
+SHUFFLE_CHECK(offsetof(shuffle_job, budget) == 24);
+SHUFFLE_CHECK(sizeof(shuffle_session) == 744);
+SHUFFLE_CHECK(offsetof(shuffle_session, clock) == 0);
+SHUFFLE_CHECK(offsetof(shuffle_session, kind) == 8);
+SHUFFLE_CHECK(offsetof(shuffle_session, count) == 16);
+SHUFFLE_CHECK(offsetof(shuffle_session, words) == 24);
+SHUFFLE_CHECK(offsetof(shuffle_session, jobs) == 216);
+SHUFFLE_CHECK(offsetof(shuffle_session, chosen) == 728);
+SHUFFLE_CHECK(offsetof(shuffle_session, span) == 736);
+SHUFFLE_CHECK(sizeof(shuffle_reply) == 32);
+SHUFFLE_CHECK(offsetof(shuffle_reply, number) == 0);
+SHUFFLE_CHECK(offsetof(shuffle_reply, used) == 8);
+SHUFFLE_CHECK(offsetof(shuffle_reply, first) == 16);
+SHUFFLE_CHECK(offsetof(shuffle_reply, second) == 24);
+SHUFFLE_CHECK(sizeof(size_t) == 8);
+#undef SHUFFLE_CHECK
+
+#endif
