@@ -1,4 +1,5 @@
-// Text written into a lent buffer from a place on; each function answers the place past what it wrote.
+// Text written into a lent buffer from a place on; each function answers the place past what it wrote. Internal: whoever
+// calls them has seen to the room, as `transcript` does once for a whole text.
 ghost use Prim.Native.Nat.{_+_, _≤_, _<_};
 ghost use mathlib.Core.List.{[], _∷_, _++_};
 ghost use lib.ListN.{length};

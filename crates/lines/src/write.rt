@@ -1,4 +1,5 @@
-// A line of the output, written into a lent buffer from a place on; the answer is the place past it.
+// A line of the output, written into a lent buffer from a place on; the answer is the place past it. Internal: whoever
+// calls these has seen to the room.
 ghost use Prim.Native.Nat.{_+_, _≤_};
 ghost use mathlib.Core.List.{[], _∷_};
 ghost use lib.ListN.{length};
