@@ -10,6 +10,9 @@
  * pointer, has no global state, allocates nothing and needs no setup. Of the C
  * library it calls memcpy and memset only.
  *
+ * Stack. No call takes more than 8,192 bytes of it, memcpy and memset not
+ * counted.
+ *
  * Threads. Calls on different records may run at the same time. A record must
  * not be used by two calls at a time.
  *

@@ -2,29 +2,32 @@
 use Prim.Native.Nat.{ℕ, _+_, _-_, _*_, _≤_, _<_}
 use mathlib.Core.Path.{_≡_, refl, sym, ap, _∙_}
 use mathlib.Core.Bool.{Bool, true, false, cond}
-use mathlib.Core.Logic.{_⊎_, ⊎-elim}
+use mathlib.Core.Logic.{_⊎_, ⊎-elim, dite}
 use native.Mathlib.Numerals.{add-one}
 use native.Mathlib.Omega.{arith}
-use lib.Dec.{eqb}
+use native.Mathlib.Decide.{ℕ-discrete}
+use lib.Dec.{eqb, ltb, lit≤}
 use lib.IntN.{ℤ}
 use lib.ListN.{length, set}
 use mir.Syntax.{w64}
 use mir.Val.{Fits}
 use borrow.Author.Tests.{lt-ltb, le-ltb, le-leb, lt-leb, eq-eqb, ne-eqb}
-use Rattle.bounded.specs.Fold.{foldTo}
+use Rattle.bounded.specs.Fold.{foldTo, put-past}
 use Rattle.table.specs.declared.rows.Task.{Task}
 use Rattle.table.specs.Rows.{horizon, FitRow, Fit}
+use Rattle.table.specs.Bound.{Within}
 use Rattle.table.specs.Budgets.{budgetOf}
 use Rattle.session.specs.declared.Job.{Job}
 use Rattle.session.specs.declared.Session.{Session}
 use Rattle.session.specs.declared.Answer.the-variants.{Arrived, Advanced, Finished, NoRow, TooEarly, NoChoice, BadStep, Idling, ClockEnd}
 use Rattle.session.specs.declared.Outcome.{Outcome}
+use Rattle.edf.specs.Demand.{TaskSet}
 use Rattle.session.specs.Reading.{idle, clockEnd, jobAt, tasks, startBy, startBudget}
 use Rattle.session.specs.Sound.{sound}
 use Rattle.session.specs.Facts.{Facts, Choice, Running, facts-of, facts-fit}
 use Rattle.session.specs.Ahead.{aheadBy, DueOf, ahead-is}
 use Rattle.session.specs.Soundness.{rows-count}
-use Rattle.session.specs.Calls.{refused, changed, arrivedJob, arriveIn, overJob, agedJob, agedJobs, overAfter, advanceIn, finishIn}
+use Rattle.session.specs.Calls.{refused, accepted, changed, arrivedJob, arriveIn, overJob, agedJob, agedJobs, overAfter, advanceIn, finishIn}
 
 -- ---- what soundness gives the code
 
@@ -71,11 +74,15 @@ step-fits s n e ne l = let b = in-force s e ne in record { fits = omega (arith, 
 
 -- ---- arrive
 
+-- the job that arrives in row i of a table
+abbrev pub arrivedBy : TaskSet → ℕ → ℕ → ℕ → Job
+arrivedBy τ i clock kind = record { next = clock + τ .T i; due = clock + τ .D i; left = τ .C i; budget = startBudget kind τ i }
+
 -- w is what the machine reads back of V
-pub arrived-is : (s : Session) (i start : ℕ) (k : Task) (v w : ℤ) → FitRow (tasks s) i k → v ≡ budgetOf (tasks s) i → w ≡ v → start ≡ startBy (s .kind) w
-    → record { next = s .clock + k .period; due = s .clock + k .deadline; left = k .run; budget = start } ≡ arrivedJob s i
+pub arrived-is : (τ : TaskSet) (i clock kind start : ℕ) (k : Task) (v w : ℤ) → FitRow τ i k → v ≡ budgetOf τ i → w ≡ v → start ≡ startBy kind w
+    → record { next = clock + k .period; due = clock + k .deadline; left = k .run; budget = start } ≡ arrivedBy τ i clock kind
 unfolding startBudget
-arrived-is s i start k v w f e r g = let u = f .row in rw (u .period, u .deadline, u .run, g, r, e)
+arrived-is τ i clock kind start k v w f e r g = let u = f .row in rw (u .period, u .deadline, u .run, g, r, e)
 
 module _ (s : Session) (row : ℕ) where
   pub arrive-unknown : (o : Outcome) → s .count ≤ row → o ≡ refused s (NoRow row) → o ≡ arriveIn s row
@@ -119,11 +126,23 @@ pub ruleset finish-cases = (finish-none, finish-idle, finish-done)
 
 -- ---- advance
 
-pub due-idle : (s : Session) (d : ℕ) → s .chosen ≡ idle → DueOf s (s .chosen) d
-due-idle s d e = record { is = λ ne. absurd (ne e) }
+-- the chosen row, and 0 under idle
+unfoldable pub placeOf : ℕ → ℕ
+placeOf c = cond (ltb c 16) c 0
 
-pub due-row : (s : Session) (d : ℕ) → d ≡ jobAt s (s .chosen) .due → DueOf s (s .chosen) d
-due-row s d e = record { is = λ ne. e }
+module _ (c : ℕ) where
+  place-row : c < 16 → c ≡ placeOf c
+  unfolding placeOf
+  place-row l = simp (lt-ltb c 16 l)
+
+  pub place-chosen : c < 16 → Within 15 (placeOf c) c
+  place-chosen l = record { is = place-row l; small = omega arith }
+
+  pub place-first : 16 ≤ c → Within 15 (placeOf c) 0
+  unfolding placeOf
+  place-first l = record { is = simp (le-ltb c 16 l); small = lit≤ tt }
+
+pub ruleset place-cases = (place-chosen, place-first)
 
 -- row i's job j after n ticks of c
 unfoldable pub agedBy : Job → ℕ → ℕ → ℕ → ℕ → Job
@@ -157,6 +176,13 @@ aged-row : (s : Session) (due n i : ℕ) → DueOf s (s .chosen) due → agedBy 
 unfolding agedBy agedJob
 aged-row s due n i d = rw (ahead-is s (s .chosen) due d i)
 
+-- where a row is chosen, the code reads its job
+place-job : (s : Session) (at : ℕ) → ChoiceBounds s → at ≡ placeOf (s .chosen) → (s .chosen ≡ idle → ⊥) → jobAt s at ≡ jobAt s (s .chosen)
+place-job s at b e ne = ap (jobAt s) (e ∙ sym (place-row (s .chosen) (b .row ne)))
+
+place-due : (s : Session) (at : ℕ) → ChoiceBounds s → at ≡ placeOf (s .chosen) → DueOf s (s .chosen) (jobAt s at .due)
+place-due s at b e = record { is = λ ne. ap (λ z. z .due) (place-job s at b e ne) }
+
 -- the loop over the rows
 abbrev pub agedTo : Session → ℕ → ℕ → Session
 agedTo s n i = changed s (s .clock) (agedJobs s n i) (s .chosen) (s .span)
@@ -165,30 +191,85 @@ pub aged-start : (s : Session) (n : ℕ) → s ≡ agedTo s n 0
 unfolding agedJobs foldTo
 aged-start s n = refl
 
-pub aged-next : (s q : Session) (n i due : ℕ) (k : Job) → q ≡ agedTo s n i → DueOf s (s .chosen) due → k ≡ agedBy (jobAt s i) i (s .chosen) due n
-    → changed q (q .clock) (set (q .jobs) i k) (q .chosen) (q .span) ≡ agedTo s n (i + 1)
+-- a row that the loop has not reached is as it was
+aged-past : (s q : Session) (n i : ℕ) → q ≡ agedTo s n i → jobAt q i ≡ jobAt s i
+unfolding agedJobs
+aged-past s q n i e = rw e (put-past (agedJob s n) (s .jobs) i _ i (omega arith))
+
+pub aged-next : (s q : Session) (n i at : ℕ) (j : Job) → q ≡ agedTo s n i → ChoiceBounds s → at ≡ placeOf (s .chosen)
+    → j ≡ agedBy (jobAt q i) i (s .chosen) (jobAt s at .due) n → changed q (q .clock) (set (q .jobs) i j) (q .chosen) (q .span) ≡ agedTo s n (i + 1)
 unfolding agedJobs foldTo
-aged-next s q n i due k e d f =
-    rw (add-one, e) (ap (λ (k : Job). changed s (s .clock) (set (agedJobs s n i) i k) (s .chosen) (s .span)) (f ∙ aged-row s due n i d))
+aged-next s q n i at j e b p f =
+    let g : j ≡ agedJob s n i =
+    f ∙ ap (λ (z : Job). agedBy z i (s .chosen) (jobAt s at .due) n) (aged-past s q n i e) ∙ aged-row s (jobAt s at .due) n i (place-due s at b p) in
+    rw (add-one, e) (ap (λ (z : Job). changed s (s .clock) (set (agedJobs s n i) i z) (s .chosen) (s .span)) g)
 
-pub aged-done : (s q : Session) (n i m : ℕ) → q ≡ agedTo s n i → i ≤ m → m ≤ i → m ≡ s .count → q ≡ agedTo s n (s .count)
-aged-done s q n i m e l h k = let j : i ≡ s .count = omega arith in e ∙ ap (agedTo s n) j
+-- 1 if a chosen job with these ticks left is over after n ticks
+unfoldable pub overBy : ℕ → ℕ → ℕ → ℕ
+overBy c left n = cond (eqb c idle) 0 (cond (eqb left n) 1 0)
 
-pub ruleset aged-laws = (aged-start, aged-next, aged-done)
+module _ (c left n : ℕ) where
+  pub over-idle : c ≡ idle → 0 ≡ overBy c left n
+  unfolding overBy
+  over-idle e = simp (eq-eqb c idle e)
+
+  pub over-yes : (c ≡ idle → ⊥) → left ≡ n → 1 ≡ overBy c left n
+  unfolding overBy
+  over-yes e f = simp (ne-eqb c idle e, eq-eqb left n f)
+
+  pub over-not : (c ≡ idle → ⊥) → (left ≡ n → ⊥) → 0 ≡ overBy c left n
+  unfolding overBy
+  over-not e f = simp (ne-eqb c idle e, ne-eqb left n f)
+
+pub ruleset over-cases = (over-idle, over-yes, over-not)
+
+over-is : (s : Session) (n at : ℕ) → ChoiceBounds s → at ≡ placeOf (s .chosen) → overBy (s .chosen) (jobAt s at .left) n ≡ overAfter s n
+unfolding overBy overAfter
+over-is s n at b e =
+    dite (ℕ-discrete (s .chosen) idle) (λ c. simp (eq-eqb (s .chosen) idle c))
+    (λ ne. simp (ne-eqb (s .chosen) idle ne, ap (λ z. z .left) (place-job s at b e ne)))
+
+-- the choice after a step that leaves so many ticks of it
+unfoldable pub keptBy : ℕ → ℕ → ℕ
+keptBy c left = cond (eqb left 0) 0 c
+
+module _ (c left : ℕ) where
+  pub kept-none : left ≡ 0 → 0 ≡ keptBy c left
+  unfolding keptBy
+  kept-none e = simp (eq-eqb left 0 e)
+
+  pub kept-same : (left ≡ 0 → ⊥) → c ≡ keptBy c left
+  unfolding keptBy
+  kept-same e = simp (ne-eqb left 0 e)
+
+pub ruleset kept-cases = (kept-none, kept-same)
+
+kept-is : (c span n : ℕ) → n ≤ span → keptBy c (span - n) ≡ cond (eqb span n) 0 c
+unfolding keptBy
+kept-is c span n l =
+    dite (ℕ-discrete span n) (λ e. simp (eq-eqb span n e, eq-eqb (span - n) 0 (omega arith)))
+    (λ ne. simp (ne-eqb span n ne, ne-eqb (span - n) 0 (λ z. ne (omega arith))))
+
+-- a step that nothing refuses, and what it makes of the session
+pub record Step (s : Session) (n : ℕ) : Type 0 where
+  pub bounds : ChoiceBounds s
+  pub within : n ≤ s .span
+  pub ends : s .clock + n ≤ clockEnd
+
+abbrev pub steppedOf : Session → ℕ → Outcome
+steppedOf s n =
+    accepted
+    (changed s (s .clock + n) (agedJobs s n (s .count)) (cond (eqb (s .span) n) 0 (s .chosen)) (s .span - n))
+    (Advanced (s .span - n) (overAfter s n))
+
+pub stepped-is : (s q : Session) (n i m at x y : ℕ) → Step s n → q ≡ agedTo s n i → i ≤ m → m ≤ i → m ≡ s .count → at ≡ placeOf (s .chosen)
+    → x ≡ keptBy (s .chosen) (s .span - n) → y ≡ overBy (s .chosen) (jobAt s at .left) n
+    → record { answer = Advanced (s .span - n) y; used = 0; session = changed q (s .clock + n) (q .jobs) x (s .span - n) } ≡ steppedOf s n
+stepped-is s q n i m at x y t e l h c p a b =
+    let j : i ≡ s .count = omega arith in
+    rw (a ∙ kept-is (s .chosen) (s .span) n (t .within), b ∙ over-is s n at (t .bounds) p, e, j) refl
 
 module _ (s : Session) (n : ℕ) where
-  pub over-idle : s .chosen ≡ idle → 0 ≡ overAfter s n
-  unfolding overAfter
-  over-idle e = simp (eq-eqb (s .chosen) idle e)
-
-  pub over-yes : (s .chosen ≡ idle → ⊥) → jobAt s (s .chosen) .left ≡ n → 1 ≡ overAfter s n
-  unfolding overAfter
-  over-yes e f = simp (ne-eqb (s .chosen) idle e, eq-eqb (jobAt s (s .chosen) .left) n f)
-
-  pub over-not : (s .chosen ≡ idle → ⊥) → (jobAt s (s .chosen) .left ≡ n → ⊥) → 0 ≡ overAfter s n
-  unfolding overAfter
-  over-not e f = simp (ne-eqb (s .chosen) idle e, ne-eqb (jobAt s (s .chosen) .left) n f)
-
   pub advance-none : (o : Outcome) → s .span ≡ 0 → o ≡ refused s NoChoice → o ≡ advanceIn s n
   unfolding advanceIn
   advance-none o h e = e ∙ sym (simp (eq-eqb (s .span) 0 h))
@@ -209,27 +290,13 @@ module _ (s : Session) (n : ℕ) where
         advance-end o h e =
             e ∙ sym (simp (ne-eqb (s .span) 0 a, ne-eqb n 0 b, le-ltb (s .span) n c, lt-ltb clockEnd (s .clock + n) h))
 
-        module _ (d : s .clock + n ≤ clockEnd) (q : Session) (x : ℕ) (g : q ≡ agedTo s n (s .count)) (h : x ≡ overAfter s n) where
-          abbrev outcome : ℕ → Outcome
-          outcome k = record {
-            answer = Advanced (s .span - n) x;
-            used = 0;
-            session = changed q (s .clock + n) (q .jobs) k (s .span - n);
-          }
+        pub advance-done : (o : Outcome) → s .clock + n ≤ clockEnd → o ≡ steppedOf s n → o ≡ advanceIn s n
+        unfolding advanceIn
+        advance-done o d e =
+            e ∙ sym (simp (ne-eqb (s .span) 0 a, ne-eqb n 0 b, le-ltb (s .span) n c, le-ltb clockEnd (s .clock + n) d))
 
-          advanced : (k : ℕ) → k ≡ cond (eqb (s .span) n) 0 (s .chosen) → outcome k ≡ advanceIn s n
-          unfolding advanceIn
-          advanced k e =
-              rw (g, h, e)
-              (sym (simp (ne-eqb (s .span) 0 a, ne-eqb n 0 b, le-ltb (s .span) n c, le-ltb clockEnd (s .clock + n) d)))
+pub ruleset advance-cases = (advance-none, advance-zero, advance-long, advance-end, advance-done)
 
-          pub advance-last : s .span - n ≡ 0 → outcome 0 ≡ advanceIn s n
-          advance-last z = advanced 0 (sym (simp (eq-eqb (s .span) n (omega arith))))
-
-          pub advance-more : (s .span - n ≡ 0 → ⊥) → outcome (q .chosen) ≡ advanceIn s n
-          advance-more ne =
-              advanced (q .chosen) (ap (λ z. z .chosen) g ∙ sym (simp (ne-eqb (s .span) n (λ e. ne (omega arith)))))
-
-pub ruleset over-cases = (over-idle, over-yes, over-not)
-
-pub ruleset advance-cases = (advance-none, advance-zero, advance-long, advance-end, advance-last, advance-more)
+-- a step that is not refused
+pub step-ready : (s : Session) (n : ℕ) → sound s ≡ true → (s .span ≡ 0 → ⊥) → n ≤ s .span → s .clock + n ≤ clockEnd → Step s n
+step-ready s n e ne l d = record { bounds = in-force s e ne; within = l; ends = d }

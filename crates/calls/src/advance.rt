@@ -1,12 +1,11 @@
 // The clock rises (docs/SPECIFICATION.md §5.5).
 ghost use mathlib.Core.Path.{_≡_};
 ghost use mathlib.Core.Bool.{true};
-ghost use Prim.Native.Nat.{_-_, _≤_};
+ghost use Prim.Native.Nat.{_-_};
+ghost use Rattle.table.specs.Bound.{Within};
 ghost use Rattle.session.specs.Sound.{sound};
-ghost use Rattle.session.specs.Facts.{Facts};
-ghost use Rattle.session.specs.Ahead.{DueOf};
-ghost use Rattle.session.specs.Calls.{agedJobs, overAfter, changed, advanceIn, advanceOf};
-ghost use Rattle.calls.specs.Code.{agedBy, ChoiceBounds};
+ghost use Rattle.session.specs.Calls.{advanceIn, advanceOf};
+ghost use Rattle.calls.specs.Code.{agedBy, placeOf, overBy, keptBy, Step, steppedOf};
 use session::Answer;
 use session::Job;
 use session::Outcome;
@@ -53,51 +52,63 @@ fn aged_job(j: Job, i: u64, c: u64, due: u64, n: u64) -> Job
     j
 }
 
-// The chosen job's deadline; 0 under idle.
-fn chosen_due(s: Session) -> u64
-    requires { ⌜ ChoiceBounds s ⌝ }
-    ensures { λ r. ⌜ DueOf s (s .chosen) r ⌝ }
+// The chosen row, and row 0 under idle, where what is read of it does not matter.
+fn place_of(c: u64) -> usize
+    ensures { λ r. ⌜ Within 15 (placeOf c) r ⌝ }
 {
-    let c = s.chosen;
+    if c < 16 {
+        return c as usize;
+    }
+    0
+}
+
+// 1 if a chosen job with these ticks left is over after n ticks.
+fn over_after(c: u64, left: u64, n: u64) -> u64
+    ensures { λ r. ⌜ r ≡ overBy c left n ⌝ }
+{
     if c == Session::IDLE {
         return 0;
     }
-    let j = s.jobs[c as usize];
-    j.due
-}
-
-// The session with each row's job n ticks older.
-fn aged(s: Session, n: u64) -> Session
-    requires { ⌜ ChoiceBounds s ⌝ }
-    ensures { λ r. ⌜ r ≡ changed s (s .clock) (agedJobs s n (s .count)) (s .chosen) (s .span) ⌝ }
-{
-    let rows = s.count as usize;
-    let c = s.chosen;
-    let due = chosen_due(s);
-    let mut q = s;
-    let mut i: usize = 0;
-    while i < rows {
-        let j = s.jobs[i];
-        q.jobs[i] = aged_job(j, i as u64, c, due, n);
-        i = i + 1;
-    }
-    q
-}
-
-// 1 if the chosen job is over after n ticks.
-fn over_after(s: Session, n: u64) -> u64
-    requires { ⌜ ChoiceBounds s ⌝ }
-    ensures { λ r. ⌜ r ≡ overAfter s n ⌝ }
-{
-    let c = s.chosen;
-    if c == Session::IDLE {
-        return 0;
-    }
-    let j = s.jobs[c as usize];
-    if j.left == n {
+    if left == n {
         return 1;
     }
     0
+}
+
+// The choice after a step that leaves `left` ticks of it: none after the last.
+fn kept(c: u64, left: u64) -> u64
+    ensures { λ r. ⌜ r ≡ keptBy c left ⌝ }
+{
+    if left == 0 { 0 } else { c }
+}
+
+// n ticks of the choice in force, which nothing refuses. Only the copy is indexed, so that a single one is made.
+fn stepped(s: Session, n: u64) -> Outcome
+    requires { ⌜ Step s n ⌝ }
+    ensures { λ r. ⌜ r ≡ steppedOf s n ⌝ }
+{
+    let mut q = s;
+    let rows = q.count as usize;
+    let c = q.chosen;
+    let left = q.span - n;
+    let later = q.clock + n;
+    let at = place_of(c);
+    let k = q.jobs[at];
+    let mut i: usize = 0;
+    while i < rows {
+        let j = q.jobs[i];
+        q.jobs[i] = aged_job(j, i as u64, c, k.due, n);
+        i = i + 1;
+    }
+    let over = over_after(c, k.left, n);
+    q.clock = later;
+    q.chosen = kept(c, left);
+    q.span = left;
+    Outcome {
+        answer: Answer::Advanced { left, over },
+        used: 0,
+        session: q,
+    }
 }
 
 // For callers who can prove that the session is sound.
@@ -106,7 +117,6 @@ pub fn advance_sound(s: Session, n: u64) -> Outcome
     ensures { λ r. ⌜ r ≡ advanceIn s n ⌝ }
 {
     let span = s.span;
-    let clock = s.clock;
     if span == 0 {
         return refuse(s, Answer::NoChoice);
     }
@@ -116,23 +126,10 @@ pub fn advance_sound(s: Session, n: u64) -> Outcome
     if span < n {
         return refuse(s, Answer::BadStep(span));
     }
-    let later = clock + n;
-    if Session::CLOCK_END < later {
+    if Session::CLOCK_END < s.clock + n {
         return refuse(s, Answer::ClockEnd);
     }
-    let over = over_after(s, n);
-    let left = span - n;
-    let mut q = aged(s, n);
-    q.clock = later;
-    q.span = left;
-    if left == 0 {
-        q.chosen = 0;
-    }
-    Outcome {
-        answer: Answer::Advanced { left, over },
-        used: 0,
-        session: q,
-    }
+    stepped(s, n)
 }
 
 pub fn advance(s: Session, n: u64) -> Outcome

@@ -1,10 +1,12 @@
 // A job of a row arrives (docs/SPECIFICATION.md §5.3).
 ghost use mathlib.Core.Path.{_≡_};
 ghost use mathlib.Core.Bool.{true};
-ghost use Prim.Native.Nat.{_<_};
+ghost use Prim.Native.Nat.{_≤_, _<_};
+ghost use Rattle.table.specs.Rows.{tasksOf, Fit};
+ghost use Rattle.session.specs.Reading.{clockEnd};
 ghost use Rattle.session.specs.Sound.{sound};
-ghost use Rattle.session.specs.Facts.{Facts};
-ghost use Rattle.session.specs.Calls.{arrivedJob, arriveIn, arriveOf};
+ghost use Rattle.session.specs.Calls.{arriveIn, arriveOf};
+ghost use Rattle.calls.specs.Code.{arrivedBy};
 use session::Answer;
 use session::Job;
 use session::Outcome;
@@ -13,19 +15,14 @@ use session::refuse;
 use session::sound::is_sound;
 use session::sound::start_budget;
 
-// The job that arrives now in row i.
-fn arriving(s: Session, i: usize) -> Job
-    requires { ⌜ Facts s × (i < s .count) ⌝ }
-    ensures { λ r. ⌜ r ≡ arrivedJob s i ⌝ }
+// The job that arrives now in row i of a table.
+fn arriving(rows: &[u32], i: usize, clock: u64, kind: u64) -> Job
+    requires { ⌜ Fit (tasksOf (now rows)) × (i < tasksOf (now rows) .rows) × (clock ≤ clockEnd) ⌝ }
+    ensures { λ r. ⌜ r ≡ arrivedBy (tasksOf (now (rows .entry))) i clock kind ⌝ }
 {
-    let n = s.count as usize;
-    let clock = s.clock;
-    let words = s.words;
-    let e = 3 * n;
-    let rows = &words[..e];
     let k = table::rows::fit_row(rows, i);
     let v = table::budgets::budget(rows, i);
-    let start = start_budget(s.kind, v);
+    let start = start_budget(kind, v);
     Job {
         next: clock + k.period,
         due: clock + k.deadline,
@@ -45,12 +42,14 @@ pub fn arrive_sound(s: Session, row: u64) -> Outcome
     }
     let i = row as usize;
     let clock = s.clock;
-    let j = s.jobs[i];
+    let mut q = s;
+    let j = q.jobs[i];
     if clock < j.next {
         return refuse(s, Answer::TooEarly { row, next: j.next });
     }
-    let k = arriving(s, i);
-    let mut q = s;
+    let words = s.words;
+    let e = 3 * (count as usize);
+    let k = arriving(&words[..e], i, clock, s.kind);
     q.jobs[i] = k;
     q.chosen = 0;
     q.span = 0;

@@ -23,9 +23,10 @@ pub fn finish_sound(s: Session) -> Outcome
     if c == Session::IDLE {
         return refuse(s, Answer::Idling);
     }
-    let i = c as usize;
-    let j = s.jobs[i];
+    // Only the copy is indexed, so that the record is not copied once more to read it.
     let mut q = s;
+    let i = c as usize;
+    let j = q.jobs[i];
     q.jobs[i] = Job {
         next: j.next,
         due: 0,

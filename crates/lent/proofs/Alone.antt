@@ -1,5 +1,5 @@
 -- The law for every `fn f(s: &mut Session) -> T { let o = g(*s); *s = o.session; h(o) }` over a
--- `fn g(s: Session) -> Outcome` with `ensures { λ r. ⌜ r ≡ spec s ⌝ }` and an h as in View.antt.
+-- `fn g(s: Session) -> Outcome` with `ensures { λ r. ⌜ r ≡ spec s ⌝ }` and an h as in View.antt. What g asks, f asks (Need.antt).
 use mathlib.Core.Path.{_≡_, refl, ap, _∙_}
 use Prim.Native.Nat.{ℕ}
 use mathlib.Core.List.{[], _∷_, List}
@@ -41,6 +41,7 @@ use Rattle.session.proofs.Outcome as P
 use Rattle.session.proofs.Outcome.Laws as P′
 use Rattle.lent.proofs.Data.{Data, rowOf, valOf, IsOf, is-val, typed, has, opened, closed, gives}
 use Rattle.lent.proofs.Records.{session, outcome, in-outcome}
+use Rattle.lent.proofs.Need.{Need}
 use Rattle.lent.proofs.View as second
 use Rattle.lent.proofs.View.{views}
 
@@ -84,14 +85,14 @@ f-ended T = record {
 abbrev stayed : (T : Data) → Stays (f-ended T .signature .params) (f-ended T .kept)
 stayed T = (stay-ref (0 ∷ []) tt (plain (λ _. S.the-row)), tt)
 
-module _ (k m : Name) (T : Data) (spec : Session → Outcome) (view : Outcome → T .decl .D) {M : Type 1} (𝓤 : URA M) (H : Heap 𝓤) (A : Atoms 𝓤) where
+module _ (k m : Name) (T : Data) (N : Need) (spec : Session → Outcome) (view : Outcome → T .decl .D) {M : Type 1} (𝓤 : URA M) (H : Heap 𝓤) (A : Atoms 𝓤) where
   abbrev g-clauses : Clauses 𝓤 g-ended
-  g-clauses = λ κs a. record { ghost = Unit {0}; requires = λ _. emp 𝓤; ensures = λ _ r end. fact 𝓤 (r ≡ spec (a .0)) }
+  g-clauses = λ κs a. record { ghost = Unit {0}; requires = λ _. N .asks 𝓤 (a .0); ensures = λ _ r end. fact 𝓤 (r ≡ spec (a .0)) }
 
   abbrev f-clauses : Clauses 𝓤 (f-ended T)
   f-clauses = λ κs a. record {
     ghost = Unit {0};
-    requires = λ _. emp 𝓤;
+    requires = λ _. N .asks 𝓤 (now (a .0));
     ensures = λ _ r end. fact 𝓤 ((r ≡ view (spec (now (a .0)))) × (now (end .0) ≡ spec (now (a .0)) .session));
   }
 
@@ -117,9 +118,11 @@ module _ (k m : Name) (T : Data) (spec : Session → Outcome) (view : Outcome �
     abbrev to-call : Call .Ghost
     to-call = ((tt, tt, tt, (s, tt), (valOf session s ∷ [], tt)), tt)
 
-    goes : IsOf session s (valOf session s) → ent 𝓤 (sem 𝓤 H A ftrue) (Call .pre to-call)
-    goes is =
-        qed W (‵ ftrue ∷ []) ∵ nothing ! $ has ! session s _ is $ fjoin ! $ move ! (1 ∷ 0 ∷ []) $ join ! $ frame ! $ done !
+    goes : N .holds s → IsOf session s (valOf session s) → ent 𝓤 (sem 𝓤 H A ftrue) (Call .pre to-call)
+    goes asked is =
+        via 𝓤 _
+        (qed W (‵ ftrue ∷ []) ∵ nothing ! $ has ! session s _ is $ fjoin ! $ move ! (1 ∷ 0 ∷ []) $ join ! $ by ! (id⊢ 𝓤 _))
+        (N .give 𝓤 s (onEntry 𝓤 H A (g-ended .signature) tt tt (s, tt) (valOf session s ∷ [], tt)) asked)
 
     exits : (o : Outcome) (r : T .decl .D) (v : Val) → o ≡ spec s → r ≡ view o → IsOf T r v
         → ent 𝓤 (sep 𝓤 (A .obs γ (S.the-row .coded .code (o .session))) (sep 𝓤 (A .bor κ (Body (mem S.the-row) b i γ)) (A .lft κ q))) (Post v)
@@ -130,7 +133,7 @@ module _ (k m : Name) (T : Data) (spec : Session → Outcome) (view : Outcome �
         says ! (e′ ∙ ap view e, ap (λ z. z .session) e) $ nothing ! $ move ! (3 ∷ 0 ∷ []) $ join ! $ frame ! $
         feqI ! (List Val) (vptr b i ∷ []) (vptr b i ∷ []) refl $ fjoin3 ! $ nothing ! $ move ! (1 ∷ 0 ∷ []) $ fjoin ! $ done !
 
-    module _ (C : Calls 𝓤 H) (Λ : Loops 𝓤 H) (fm : FmC 𝓤 H (W .laws) C) (calls : Triple 𝓤 (C k) Call) (seen : Triple 𝓤 (C m) View) where
+    module _ (C : Calls 𝓤 H) (Λ : Loops 𝓤 H) (fm : FmC 𝓤 H (W .laws) C) (calls : Triple 𝓤 (C k) Call) (seen : Triple 𝓤 (C m) View) (asked : N .holds s) where
       walk : ent 𝓤 (onEntry 𝓤 H A (f-ended T .signature) (κ, tt) (q, tt) x at) (WpFn 𝓤 H C Λ (mirOf k m T) (vptr b i ∷ []) Post)
       walk =
           qed W ((‵ (flft κ q) ⊛ ‵ ftrue) ∷ ‵ (owns (MutRef (named 0) κ S.the-row ∷ []) x at) ∷ []) ∵
@@ -140,7 +143,7 @@ module _ (k m : Name) (T : Data) (spec : Session → Outcome) (view : Outcome �
           move ! (8 ∷ 9 ∷ 10 ∷ []) $ opened ! tt session s b i (λ is₀.
           -- [the record's cell; the open borrow; obs; auth; _3; …; _2; …; _1; …; _0; …]
           assigns ! (of-opd ! (load ! (from ! (hop ! (look ! 8 refl) (stop !))) (look-raw ! 0 refl))) (from ! (stop !)) (init ! 4 refl (typed W session s _ is₀)) $
-          nothing ! $ use1 W (raw (Call .pre to-call)) (goes is₀) $
+          nothing ! $ use1 W (raw (Call .pre to-call)) (goes asked is₀) $
           calls-at ! fm Call calls to-call (and-then ! (load ! (from ! (stop !)) (look ! 5 refl)) (no-more !)) (λ u.
           gives ! tt outcome u (‵ ftrue) (Call .post to-call u) (ensured 𝓤 H A g-ended g-clauses tt (s, tt) tt) (λ o. o ≡ spec s) (id⊢ 𝓤 _) (said s) (λ o e is.
           drop ! $ land ! (from ! (stop !)) (init ! 6 refl (typed W outcome o u is)) $
@@ -162,5 +165,5 @@ module _ (k m : Name) (T : Data) (spec : Session → Outcome) (view : Outcome �
       (WpFn 𝓤 H (𝓣 .C) (𝓣 .Λ) (mirOf k m T)) (WpFn-mono 𝓤 H (W .laws) 𝓣 (mirOf k m T))
       (walked 𝓤 H A (f-ended T) (stayed T) f-clauses (WpFn 𝓤 H (𝓣 .C) (𝓣 .Λ) (mirOf k m T))
       (λ κs. (ptr-vals, tt)) (λ κs. (mut-tells (named 0) (κs .0) S.the-row, tt))
-      (λ κs qs bounds a _ _. via 𝓤 _ (fst∗ 𝓤 _ (emp 𝓤))
-      (walk W (κs .0) (qs .0) (a .0 .ptr .0) (a .0 .ptr .1) (a .0 .name) (a .0 .now) (𝓣 .C) (𝓣 .Λ) (fmOf 𝓤 H (W .laws) 𝓣) calls seen)))
+      (λ κs qs bounds a _ _. N .learn 𝓤 (a .0 .now) _ (λ asked.
+      walk W (κs .0) (qs .0) (a .0 .ptr .0) (a .0 .ptr .1) (a .0 .name) (a .0 .now) (𝓣 .C) (𝓣 .Λ) (fmOf 𝓤 H (W .laws) 𝓣) calls seen asked)))

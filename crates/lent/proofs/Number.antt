@@ -1,5 +1,5 @@
 -- The law for every `fn f(s: &mut Session, n: uW) -> T { let o = g(*s, n); *s = o.session; h(o) }` over a
--- `fn g(s: Session, n: uW) -> Outcome` with `ensures { λ r. ⌜ r ≡ spec s n ⌝ }` and an h as in View.antt.
+-- `fn g(s: Session, n: uW) -> Outcome` with `ensures { λ r. ⌜ r ≡ spec s n ⌝ }` and an h as in View.antt. What g asks, f asks (Need.antt).
 use mathlib.Core.Path.{_≡_, refl, ap, _∙_}
 use Prim.Native.Nat.{ℕ, _<_, _^_}
 use mathlib.Core.List.{[], _∷_, List}
@@ -43,6 +43,7 @@ use Rattle.session.proofs.Outcome as P
 use Rattle.session.proofs.Outcome.Laws as P′
 use Rattle.lent.proofs.Data.{Data, rowOf, valOf, IsOf, is-val, typed, has, opened, closed, gives}
 use Rattle.lent.proofs.Records.{session, outcome, in-outcome}
+use Rattle.lent.proofs.Need.{Need}
 use Rattle.lent.proofs.View as second
 use Rattle.lent.proofs.View.{views}
 
@@ -87,14 +88,14 @@ f-ended w T = record {
 abbrev stayed : (w : Width) (T : Data) → Stays (f-ended w T .signature .params) (f-ended w T .kept)
 stayed w T = (stay-ref (0 ∷ []) tt (plain (λ _. S.the-row)), (stay-none (λ _. UInt w) yes, tt))
 
-module _ (k m : Name) (w : Width) (T : Data) (spec : Session → ℕ → Outcome) (view : Outcome → T .decl .D) {M : Type 1} (𝓤 : URA M) (H : Heap 𝓤) (A : Atoms 𝓤) where
+module _ (k m : Name) (w : Width) (T : Data) (N : Need) (spec : Session → ℕ → Outcome) (view : Outcome → T .decl .D) {M : Type 1} (𝓤 : URA M) (H : Heap 𝓤) (A : Atoms 𝓤) where
   abbrev g-clauses : Clauses 𝓤 (g-ended w)
-  g-clauses = λ κs a. record { ghost = Unit {0}; requires = λ _. emp 𝓤; ensures = λ _ r end. fact 𝓤 (r ≡ spec (a .0) (a .1 .0)) }
+  g-clauses = λ κs a. record { ghost = Unit {0}; requires = λ _. N .asks 𝓤 (a .0); ensures = λ _ r end. fact 𝓤 (r ≡ spec (a .0) (a .1 .0)) }
 
   abbrev f-clauses : Clauses 𝓤 (f-ended w T)
   f-clauses = λ κs a. record {
     ghost = Unit {0};
-    requires = λ _. emp 𝓤;
+    requires = λ _. N .asks 𝓤 (now (a .0));
     ensures = λ _ r end. fact 𝓤 ((r ≡ view (spec (now (a .0)) (a .1 .0))) × (now (end .0) ≡ spec (now (a .0)) (a .1 .0) .session));
   }
 
@@ -120,10 +121,12 @@ module _ (k m : Name) (w : Width) (T : Data) (spec : Session → ℕ → Outcome
     abbrev to-call : Call .Ghost
     to-call = ((tt, tt, tt, (s, (n, tt)), (valOf session s ∷ [], (vint w n ∷ [], tt))), tt)
 
-    goes : n < 2 ^ bits w → IsOf session s (valOf session s) → ent 𝓤 (sem 𝓤 H A ftrue) (Call .pre to-call)
-    goes fits is =
-        qed W (‵ ftrue ∷ []) ∵ nothing ! $ owned ! (UInt w) (Is (UInt w)) (uint-makes 𝓤 H A W w) n _ (refl, fits) $ fjoin ! $
-        has ! session s _ is $ fjoin ! $ move ! (1 ∷ 0 ∷ []) $ join ! $ frame ! $ done !
+    goes : N .holds s → n < 2 ^ bits w → IsOf session s (valOf session s) → ent 𝓤 (sem 𝓤 H A ftrue) (Call .pre to-call)
+    goes asked fits is =
+        via 𝓤 _
+        (qed W (‵ ftrue ∷ []) ∵ nothing ! $ owned ! (UInt w) (Is (UInt w)) (uint-makes 𝓤 H A W w) n _ (refl, fits) $ fjoin ! $
+        has ! session s _ is $ fjoin ! $ move ! (1 ∷ 0 ∷ []) $ join ! $ by ! (id⊢ 𝓤 _))
+        (N .give 𝓤 s (onEntry 𝓤 H A (g-ended w .signature) tt tt (s, (n, tt)) (valOf session s ∷ [], (vint w n ∷ [], tt))) asked)
 
     exits : (o : Outcome) (r : T .decl .D) (v : Val) → n < 2 ^ bits w → o ≡ spec s n → r ≡ view o → IsOf T r v
         → ent 𝓤 (sep 𝓤 (A .obs γ (S.the-row .coded .code (o .session))) (sep 𝓤 (A .bor κ (Body (mem S.the-row) b i γ)) (A .lft κ q))) (Post v)
@@ -135,7 +138,7 @@ module _ (k m : Name) (w : Width) (T : Data) (spec : Session → ℕ → Outcome
         feqI ! (List Val) (vptr b i ∷ []) (vptr b i ∷ []) refl $ fjoin3 ! $ nothing ! $
         owned ! (UInt w) (Is (UInt w)) (uint-makes 𝓤 H A W w) n _ (refl, fits) $ fjoin ! $ move ! (1 ∷ 0 ∷ []) $ fjoin ! $ done !
 
-    module _ (C : Calls 𝓤 H) (Λ : Loops 𝓤 H) (fm : FmC 𝓤 H (W .laws) C) (calls : Triple 𝓤 (C k) Call) (seen : Triple 𝓤 (C m) View) where
+    module _ (C : Calls 𝓤 H) (Λ : Loops 𝓤 H) (fm : FmC 𝓤 H (W .laws) C) (calls : Triple 𝓤 (C k) Call) (seen : Triple 𝓤 (C m) View) (asked : N .holds s) where
       walk : ent 𝓤 (onEntry 𝓤 H A (f-ended w T .signature) (κ, tt) (q, tt) x at) (WpFn 𝓤 H C Λ (mirOf k m w T) (vptr b i ∷ vint w n ∷ []) Post)
       walk =
           qed W ((‵ (flft κ q) ⊛ ‵ ftrue) ∷ ‵ (owns (MutRef (named 0) κ S.the-row ∷ UInt w ∷ []) x at) ∷ []) ∵
@@ -147,7 +150,7 @@ module _ (k m : Name) (w : Width) (T : Data) (spec : Session → ℕ → Outcome
           move ! (10 ∷ 11 ∷ 12 ∷ []) $ opened ! tt session s b i (λ is₀.
           -- [the record's cell; the open borrow; obs; auth; _4; …; _3; …; _2; …; _1; …; _0; …]
           assigns ! (of-opd ! (load ! (from ! (hop ! (look ! 10 refl) (stop !))) (look-raw ! 0 refl))) (from ! (stop !)) (init ! 4 refl (typed W session s _ is₀)) $
-          nothing ! $ use1 W (raw (Call .pre to-call)) (goes (gn .1) is₀) $
+          nothing ! $ use1 W (raw (Call .pre to-call)) (goes asked (gn .1) is₀) $
           calls-at ! fm Call calls to-call (and-then ! (load ! (from ! (stop !)) (look ! 5 refl)) (and-then ! (load ! (from ! (stop !)) (look ! 9 refl)) (no-more !))) (λ u.
           gives ! tt outcome u (‵ ftrue) (Call .post to-call u) (ensured 𝓤 H A (g-ended w) g-clauses tt (s, (n, tt)) tt) (λ o. o ≡ spec s n) (id⊢ 𝓤 _) (said s n) (λ o e is.
           drop ! $ land ! (from ! (stop !)) (init ! 6 refl (typed W outcome o u is)) $
@@ -169,5 +172,5 @@ module _ (k m : Name) (w : Width) (T : Data) (spec : Session → ℕ → Outcome
       (WpFn 𝓤 H (𝓣 .C) (𝓣 .Λ) (mirOf k m w T)) (WpFn-mono 𝓤 H (W .laws) 𝓣 (mirOf k m w T))
       (walked 𝓤 H A (f-ended w T) (stayed w T) f-clauses (WpFn 𝓤 H (𝓣 .C) (𝓣 .Λ) (mirOf k m w T))
       (λ κs. (ptr-vals, (uint-vals w, tt))) (λ κs. (mut-tells (named 0) (κs .0) S.the-row, (uint-tells w, tt)))
-      (λ κs qs bounds a _ _. via 𝓤 _ (fst∗ 𝓤 _ (emp 𝓤))
-      (walk W (κs .0) (qs .0) (a .0 .ptr .0) (a .0 .ptr .1) (a .0 .name) (a .0 .now) (a .1 .0) (𝓣 .C) (𝓣 .Λ) (fmOf 𝓤 H (W .laws) 𝓣) calls seen)))
+      (λ κs qs bounds a _ _. N .learn 𝓤 (a .0 .now) _ (λ asked.
+      walk W (κs .0) (qs .0) (a .0 .ptr .0) (a .0 .ptr .1) (a .0 .name) (a .0 .now) (a .1 .0) (𝓣 .C) (𝓣 .Λ) (fmOf 𝓤 H (W .laws) 𝓣) calls seen asked)))

@@ -37,7 +37,7 @@ fn covers(j: Job, c: u64, due: u64, n: u64) -> bool
 
 // Whether each job that loses budget while c runs has at least n of it. Internal: its callers have tested the number of
 // rows, and hand in c's deadline.
-pub fn covered(s: Session, c: u64, due: u64, n: u64) -> bool
+fn covered(s: Session, c: u64, due: u64, n: u64) -> bool
     requires { ⌜ (s .count ≤ 16) × DueOf s c due ⌝ }
     ensures { λ r. ⌜ r ≡ allTo (affords s c n) (s .count) ⌝ }
 {

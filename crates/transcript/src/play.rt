@@ -44,11 +44,7 @@ pub fn play(text: &[u8], start: usize, session: Session, first: Play, out: &mut 
                 p = tell(p, letter(c), s.clock, answer, o.used, out);
                 continue;
             }
-            Line::Row {
-                run: _,
-                period: _,
-                deadline: _,
-            } => {
+            Line::Row { .. } => {
                 return refuse(p, s.clock, out).end;
             }
             Line::Unreadable => {

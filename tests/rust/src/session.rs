@@ -79,8 +79,12 @@ impl Session {
 
     /// Soundness as the specification states it, for a session of any content.
     pub fn is_sound(&self) -> bool {
-        self.kind_is_right()
-            && self.clock <= CLOCK_END
+        self.kind_is_right() && self.fits_its_table()
+    }
+
+    /// Soundness but for the kind, of a session whose kind is right.
+    pub fn fits_its_table(&self) -> bool {
+        self.clock <= CLOCK_END
             && self.slots.len() == self.rows.len()
             && (0..self.rows.len()).all(|row| self.slot_is_sound(row))
             && self.choice.is_none_or(|choice| self.allows(choice))

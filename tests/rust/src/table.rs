@@ -191,3 +191,14 @@ pub fn overloads_by_scan(rows: &[Row], limit: u64) -> impl Iterator<Item = (u64,
         .map(|tick| (tick, demand(rows, tick)))
         .filter(|(tick, demand)| demand > tick)
 }
+
+/// The kind of lawful rows by the definitions, each tick tried; none if the
+/// table is refused.
+pub fn admit_by_scan(rows: &[Row]) -> Option<Kind> {
+    if (0..rows.len()).all(|row| budget(rows, row) >= 0) {
+        return Some(Kind::Loose);
+    }
+    let length = busy_length_by_scan(rows)?;
+    let overload = overloads_by_scan(rows, length).next();
+    overload.is_none().then_some(Kind::Tight)
+}

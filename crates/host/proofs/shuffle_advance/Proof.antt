@@ -12,6 +12,7 @@ use Rattle.host.proofs.seen.Symbol as h-def
 use Rattle.host.proofs.seen.Symbol.{name as #h}
 use Rattle.host.proofs.seen.Met as h-thm
 use Rattle.host.proofs.Result.{reply}
+use Rattle.lent.proofs.Need.{nothing-asked}
 use Rattle.lent.proofs.Number as law
 use Rattle.host.proofs.shuffle_advance.Key.{name as #f}
 use Rattle.host.proofs.shuffle_advance as f
@@ -23,6 +24,6 @@ unfolding code.routine tablesOf
 shuffle-advance-spec 𝓤 H 𝓜 𝓖 𝓡 =
     entered 𝓤 H (tripleOf 𝓤 H (𝓖 .A) f.signature (f.spec 𝓤 H (𝓖 .A) (𝓜 .mem) (𝓡 .run)))
     (tables 𝓤 H 𝓜 𝓡 code.env .C) (tables 𝓤 H 𝓜 𝓡 code.env .Λ) #f code.function (code.unfolded 𝓤 H 𝓜 𝓡)
-    (law.meets #g #h w64 reply advanceOf replyOf 𝓤 H (𝓖 .A) (givenOf 𝓤 H 𝓜 𝓖) (tablesOf 𝓤 H 𝓜 (tables 𝓤 H 𝓜 𝓡 code.env))
+    (law.meets #g #h w64 reply nothing-asked advanceOf replyOf 𝓤 H (𝓖 .A) (givenOf 𝓤 H 𝓜 𝓖) (tablesOf 𝓤 H 𝓜 (tables 𝓤 H 𝓜 𝓡 code.env))
     (cited 𝓤 H _ 𝓜 𝓡 code.env #g g-def.routine code.calls-calls·advance·advance (g-thm.met 𝓤 H 𝓜 𝓖 𝓡))
     (cited 𝓤 H _ 𝓜 𝓡 code.env #h h-def.routine code.calls-host·seen (h-thm.met 𝓤 H 𝓜 𝓖 𝓡)))

@@ -12,6 +12,7 @@ use Rattle.lent.proofs.seen.Symbol as h-def
 use Rattle.lent.proofs.seen.Symbol.{name as #h}
 use Rattle.lent.proofs.seen.Met as h-thm
 use Rattle.lent.proofs.Result.{reply}
+use Rattle.lent.proofs.Need.{nothing-asked}
 use Rattle.lent.proofs.Number as law
 use Rattle.lent.proofs.arrive.Key.{name as #f}
 use Rattle.lent.proofs.arrive as f
@@ -23,6 +24,6 @@ unfolding code.routine tablesOf
 arrive-spec 𝓤 H 𝓜 𝓖 𝓡 =
     entered 𝓤 H (tripleOf 𝓤 H (𝓖 .A) f.signature (f.spec 𝓤 H (𝓖 .A) (𝓜 .mem) (𝓡 .run)))
     (tables 𝓤 H 𝓜 𝓡 code.env .C) (tables 𝓤 H 𝓜 𝓡 code.env .Λ) #f code.function (code.unfolded 𝓤 H 𝓜 𝓡)
-    (law.meets #g #h w64 reply arriveOf replyOf 𝓤 H (𝓖 .A) (givenOf 𝓤 H 𝓜 𝓖) (tablesOf 𝓤 H 𝓜 (tables 𝓤 H 𝓜 𝓡 code.env))
+    (law.meets #g #h w64 reply nothing-asked arriveOf replyOf 𝓤 H (𝓖 .A) (givenOf 𝓤 H 𝓜 𝓖) (tablesOf 𝓤 H 𝓜 (tables 𝓤 H 𝓜 𝓡 code.env))
     (cited 𝓤 H _ 𝓜 𝓡 code.env #g g-def.routine code.calls-calls·arrive·arrive (g-thm.met 𝓤 H 𝓜 𝓖 𝓡))
     (cited 𝓤 H _ 𝓜 𝓡 code.env #h h-def.routine code.calls-lent·seen (h-thm.met 𝓤 H 𝓜 𝓖 𝓡)))

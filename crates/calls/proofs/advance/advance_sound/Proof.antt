@@ -1,6 +1,6 @@
 -- `calls::advance::advance_sound` meets its contract. Assumes nothing.
 use borrow.Author.Needs.{needs}
-use Rattle.calls.specs.Code.{advance-cases, in-force, step-fits}
+use Rattle.calls.specs.Code.{advance-cases, step-fits, step-ready}
 use Rattle.calls.proofs.advance.advance_sound.Statement.{statement}
 use Rattle.calls.proofs.advance.advance_sound.Tie as tie
 
@@ -22,8 +22,8 @@ refuse-requires-3 c κs = search needs
 returns-3 : tie.Need-returns-3
 returns-3 c = search (needs, advance-cases)
 
-add-later : tie.Need-add-later
-add-later c = search (needs, step-fits)
+add-if4 : tie.Need-add-if4
+add-if4 c = search (needs, step-fits)
 
 refuse-requires-4 : tie.Need-refuse-requires-4
 refuse-requires-4 c κs = search needs
@@ -31,17 +31,11 @@ refuse-requires-4 c κs = search needs
 returns-4 : tie.Need-returns-4
 returns-4 c = search (needs, advance-cases)
 
-over-after-requires : tie.Need-over-after-requires
-over-after-requires c κs = search (needs, in-force)
-
-aged-requires : tie.Need-aged-requires
-aged-requires c κs = search (needs, in-force)
+stepped-requires : tie.Need-stepped-requires
+stepped-requires c κs = search (needs, step-ready)
 
 returns-5 : tie.Need-returns-5
 returns-5 c = search (needs, advance-cases)
-
-returns-6 : tie.Need-returns-6
-returns-6 c = search (needs, advance-cases)
 
 pub advance-sound-spec : {M : Type 1} → statement M
 advance-sound-spec =
@@ -53,10 +47,8 @@ advance-sound-spec =
     returns-2
     refuse-requires-3
     returns-3
-    add-later
+    add-if4
     refuse-requires-4
     returns-4
-    over-after-requires
-    aged-requires
-    returns-5
-    returns-6)
+    stepped-requires
+    returns-5)

@@ -1,18 +1,11 @@
 -- `calls::advance::over_after` meets its contract. Assumes nothing.
 use borrow.Author.Needs.{needs}
 use Rattle.calls.specs.Code.{over-cases}
-use Rattle.calls.specs.Code.{places}
 use Rattle.calls.proofs.advance.over_after.Statement.{statement}
 use Rattle.calls.proofs.advance.over_after.Tie as tie
 
 returns : tie.Need-returns
 returns c = search (needs, over-cases)
-
-mul-j : tie.Need-mul-j
-mul-j c = search (needs, places)
-
-element-copy-out-j : tie.Need-element-copy-out-j
-element-copy-out-j c = search (needs, places)
 
 returns-2 : tie.Need-returns-2
 returns-2 c = search (needs, over-cases)
@@ -21,4 +14,4 @@ returns-3 : tie.Need-returns-3
 returns-3 c = search (needs, over-cases)
 
 pub over-after-spec : {M : Type 1} → statement M
-over-after-spec = tie.close (tie.spec returns mul-j element-copy-out-j returns-2 returns-3)
+over-after-spec = tie.close (tie.spec returns returns-2 returns-3)

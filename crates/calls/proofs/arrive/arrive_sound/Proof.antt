@@ -1,8 +1,13 @@
 -- `calls::arrive::arrive_sound` meets its contract. Assumes nothing.
+use mathlib.Core.Path.{_≡_, sym}
+use native.Mathlib.Omega.{arith}
+use lib.ListN.{length}
+use lib.Seq.{length-take-le}
 use borrow.Author.Needs.{needs}
+use Rattle.session.specs.Reading.{rowsOf}
 use Rattle.session.specs.Facts.{facts-of}
 use Rattle.calls.specs.Code.{arrive-cases}
-use Rattle.calls.specs.Code.{places, place-fits, row-place}
+use Rattle.calls.specs.Code.{places, facts-rows}
 use Rattle.calls.proofs.arrive.arrive_sound.Statement.{statement}
 use Rattle.calls.proofs.arrive.arrive_sound.Tie as tie
 
@@ -24,16 +29,40 @@ refuse-requires-2 c κs = search needs
 returns-2 : tie.Need-returns-2
 returns-2 c = search (needs, arrive-cases)
 
+mul-e : tie.Need-mul-e
+mul-e c = let a = c .before .before .before .before .before in let f = facts-of _ (a .pre) in record { fits = omega (arith, f .few) }
+
+array-share-prefix-words : tie.Need-array-share-prefix-words
+array-share-prefix-words c =
+    let a = c .before .before .before .before .before in
+    let e : length (a .args .s .words) ≡ 48 = search needs in
+    let f = facts-of _ (a .pre) in
+    omega (arith, f .few)
+
+slice-aggregate-arriving : tie.Need-slice-aggregate-arriving
+slice-aggregate-arriving c =
+    let a = c .before .before .before .before .before .before in
+    let e : length (a .args .s .words) ≡ 48 = search needs in
+    let f = facts-of _ (a .pre) in
+    sym (length-take-le _ _ (omega (arith, f .few)))
+
 arriving-requires : tie.Need-arriving-requires
-arriving-requires c κs = search (needs, facts-of)
+unfolding rowsOf
+arriving-requires c κs =
+    let a = c .before .before .before .before .before .before in
+    let e : length (a .args .s .words) ≡ 48 = search needs in
+    let f = facts-of _ (a .pre) in
+    let r = facts-rows (a .args .s) (a .args .row) f e (search needs) in
+    (r .0, r .1, f .clock)
 
 mul-k : tie.Need-mul-k
-mul-k c = let a = c .before .before .before .before .before in place-fits _ (row-place _ _ (a .pre) (search needs))
+mul-k c = search (needs, places)
 
 element-set-from-k : tie.Need-element-set-from-k
 element-set-from-k c = search (needs, places)
 
 returns-3 : tie.Need-returns-3
+unfolding rowsOf
 returns-3 c = search (needs, arrive-cases)
 
 pub arrive-sound-spec : {M : Type 1} → statement M
@@ -46,6 +75,9 @@ arrive-sound-spec =
     element-copy-out-j
     refuse-requires-2
     returns-2
+    mul-e
+    array-share-prefix-words
+    slice-aggregate-arriving
     arriving-requires
     mul-k
     element-set-from-k

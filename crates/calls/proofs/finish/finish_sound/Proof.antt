@@ -23,8 +23,8 @@ mul-j c = search (needs, places)
 element-copy-out-j : tie.Need-element-copy-out-j
 element-copy-out-j c = search (needs, places)
 
-mul-t13 : tie.Need-mul-t13
-mul-t13 c = search (needs, places)
+mul-t10 : tie.Need-mul-t10
+mul-t10 c = search (needs, places)
 
 element-set-from-q : tie.Need-element-set-from-q
 element-set-from-q c = search (needs, places)
@@ -42,6 +42,6 @@ finish-sound-spec =
     returns-2
     mul-j
     element-copy-out-j
-    mul-t13
+    mul-t10
     element-set-from-q
     returns-3)

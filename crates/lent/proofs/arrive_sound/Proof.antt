@@ -1,0 +1,32 @@
+-- `arrive_sound` meets its contract, by the law of Number.antt.
+use mathlib.Core.Path.{_≡_}
+use mathlib.Core.Bool.{true}
+use mir.Syntax.{w64}
+use contract.Running.{givenOf, tables, tablesOf}
+use denote.Triple.Spec.{tripleOf}
+use denote.Triple.Table.{entered, cited}
+use Rattle.session.specs.Sound.{sound}
+use Rattle.session.specs.Calls.{arriveIn}
+use Rattle.calls.proofs.arrive.arrive_sound.Symbol as g-def
+use Rattle.calls.proofs.arrive.arrive_sound.Symbol.{name as #g}
+use Rattle.calls.proofs.arrive.arrive_sound.Met as g-thm
+use Rattle.lent.specs.Reply.{replyOf}
+use Rattle.lent.proofs.seen.Symbol as h-def
+use Rattle.lent.proofs.seen.Symbol.{name as #h}
+use Rattle.lent.proofs.seen.Met as h-thm
+use Rattle.lent.proofs.Result.{reply}
+use Rattle.lent.proofs.Need.{asked}
+use Rattle.lent.proofs.Number as law
+use Rattle.lent.proofs.arrive_sound.Key.{name as #f}
+use Rattle.lent.proofs.arrive_sound as f
+use Rattle.lent.proofs.arrive_sound.Statement as stated
+use Rattle.lent.proofs.arrive_sound.Code as code
+
+pub arrive-sound-spec : {M : Type 1} → stated.statement M
+unfolding code.routine tablesOf
+arrive-sound-spec 𝓤 H 𝓜 𝓖 𝓡 =
+    entered 𝓤 H (tripleOf 𝓤 H (𝓖 .A) f.signature (f.spec 𝓤 H (𝓖 .A) (𝓜 .mem) (𝓡 .run)))
+    (tables 𝓤 H 𝓜 𝓡 code.env .C) (tables 𝓤 H 𝓜 𝓡 code.env .Λ) #f code.function (code.unfolded 𝓤 H 𝓜 𝓡)
+    (law.meets #g #h w64 reply (asked (λ s. sound s ≡ true)) arriveIn replyOf 𝓤 H (𝓖 .A) (givenOf 𝓤 H 𝓜 𝓖) (tablesOf 𝓤 H 𝓜 (tables 𝓤 H 𝓜 𝓡 code.env))
+    (cited 𝓤 H _ 𝓜 𝓡 code.env #g g-def.routine code.calls-calls·arrive·arrive-sound (g-thm.met 𝓤 H 𝓜 𝓖 𝓡))
+    (cited 𝓤 H _ 𝓜 𝓡 code.env #h h-def.routine code.calls-lent·seen (h-thm.met 𝓤 H 𝓜 𝓖 𝓡)))

@@ -1,0 +1,112 @@
+//! What is measured: the tables, and each call on a record that is ready for it.
+
+use shuffle_model::record::Request;
+use shuffle_model::shuffle::{self, Session as Record};
+use shuffle_model::table::{busy_length, Row};
+
+/// The kinds of tables, by what the check of soundness has to do.
+#[derive(Clone, Copy, Debug, PartialEq, Eq)]
+pub enum Shape {
+    Loose,
+    /// Tight, with a busy length of some thirty ticks.
+    Short,
+    /// Tight, with a busy length of 840,000 ticks and more.
+    Long,
+}
+
+pub const SHAPES: [(Shape, &str); 3] = [
+    (Shape::Loose, "loose"),
+    (Shape::Short, "tight, short"),
+    (Shape::Long, "tight, long"),
+];
+
+pub const CALLS: [&str; 5] = ["admit", "arrive", "choose", "advance", "finish"];
+
+/// The table of a shape with so many rows; no table of one row is tight.
+pub fn table(shape: Shape, count: u32) -> Option<Vec<Row>> {
+    let others = 1..count;
+    match shape {
+        // Different deadlines, so that an inversion is charged to many jobs.
+        Shape::Loose => Some(
+            (0..count)
+                .map(|row| Row::from([20, 3_000 + 50 * row, 3_000 + 50 * row]))
+                .collect(),
+        ),
+        _ if count < 2 => None,
+        Shape::Short => Some(
+            [Row::from([1, 40, 16])]
+                .into_iter()
+                .chain(others.map(|_| Row::from([30 / (count - 1), 40, 40])))
+                .collect(),
+        ),
+        // The utilisation of the first row is close to 1, so that request(r)
+        // is only a little above r, and the plain iteration is slow.
+        Shape::Long => Some(
+            [Row::from([41, 42, 42])]
+                .into_iter()
+                .chain(others.map(|row| {
+                    let period = 1_000_000 - row;
+                    Row::from([20_000 / (count - 1), period, period])
+                }))
+                .collect(),
+        ),
+    }
+}
+
+/// The words of rows, three to a row.
+pub fn words_of(rows: &[Row]) -> Vec<u32> {
+    rows.iter().flat_map(Row::numbers).collect()
+}
+
+/// The busy length of a shape's table.
+pub fn busy(shape: Shape, count: u32) -> u64 {
+    table(shape, count)
+        .and_then(|rows| busy_length(&rows))
+        .expect("the table has a busy length")
+}
+
+/// A call, and a record on which it is accepted: every row has a job, but for
+/// arrive, which brings the last one. For choose no choice is in force; for
+/// advance and finish the last candidate among the jobs is chosen.
+pub struct Case {
+    pub request: Request,
+    pub record: Record,
+}
+
+impl Case {
+    pub fn new(rows: &[Row], call: &str) -> Case {
+        let words = words_of(rows);
+        let last = rows.len() as u64 - 1;
+        let (reply, mut record) = Record::admit(&words);
+        assert!(reply.is_accepted(), "{rows:?}");
+        let waiting = if call == "arrive" { last } else { last + 1 };
+        for row in 0..waiting {
+            assert!(record.arrive(row).is_accepted());
+        }
+        let draws = vec![last as u32, 7];
+        let request = match call {
+            "admit" => Request::Admit(words),
+            "arrive" => Request::Arrive(last),
+            "choose" => Request::Choose(draws),
+            "advance" | "finish" => {
+                assert!(record.choose(&draws).is_accepted());
+                if call == "advance" {
+                    Request::Advance(1)
+                } else {
+                    Request::Finish
+                }
+            }
+            _ => panic!("{call} is no call"),
+        };
+        Case { request, record }
+    }
+
+    /// The kind that the record's table was admitted with.
+    pub fn kind_is(&self, shape: Shape) -> bool {
+        let kind = match shape {
+            Shape::Loose => shuffle::LOOSE,
+            Shape::Short | Shape::Long => shuffle::TIGHT,
+        };
+        self.record.kind == kind
+    }
+}

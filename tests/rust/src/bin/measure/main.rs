@@ -1,0 +1,229 @@
+//! Measures the calls of the library, with the check of soundness and without,
+//! beside the model, and prints the tables of docs/PERFORMANCE.md.
+
+mod cases;
+mod count;
+mod sides;
+mod time;
+
+use std::collections::HashMap;
+use std::path::Path;
+
+use cases::{busy, table, Case, Shape, CALLS, SHAPES};
+use count::{functions, repeat, COUNTED};
+use shuffle_model::options::Options;
+use shuffle_model::record::view;
+use shuffle_model::session::Session;
+use shuffle_model::shuffle::Reply;
+use sides::{library_checked, library_core, model_checked, model_core, scan_checked};
+use time::{medians, side, BATCH, BATCHES};
+
+const ROWS: [u32; 3] = [1, 4, 16];
+const GROWTH: [u32; 5] = [1, 2, 4, 8, 16];
+const TICK_NS: f64 = 1_000_000.0;
+
+fn main() {
+    let options = Options::read(&["--scratch", "--shape", "--rows", "--call"]);
+    if let Some(call) = options.text("--call") {
+        let shape = SHAPES[options.number("--shape", 0usize)].0;
+        make_counted_calls(shape, options.number("--rows", 1), call);
+        return;
+    }
+    let scratch = Path::new(options.required("--scratch"));
+    for (shape, name, count) in tables(&ROWS) {
+        for call in CALLS {
+            check(shape, name, count, call);
+        }
+    }
+    print_times();
+    print_scan();
+    let counts = count_all(scratch);
+    print_counts(&counts);
+    print_growth(&counts);
+}
+
+/// The tables with these numbers of rows.
+fn tables(rows: &[u32]) -> Vec<(Shape, &'static str, u32)> {
+    let all = SHAPES.iter();
+    all.flat_map(|(shape, name)| rows.iter().map(|count| (*shape, *name, *count)))
+        .filter(|(shape, _, count)| table(*shape, *count).is_some())
+        .collect()
+}
+
+/// A call, and the session that its record holds.
+fn case(shape: Shape, count: u32, call: &str) -> (Case, Session) {
+    let rows = table(shape, count).expect("there is such a table");
+    let case = Case::new(&rows, call);
+    assert!(case.kind_is(shape), "{shape:?} {count}");
+    let session = view(&case.record).expect("the record holds a session");
+    (case, session)
+}
+
+/// All sides must give the same answer: that makes them comparable.
+fn check(shape: Shape, name: &str, count: u32, call: &str) {
+    let (case, session) = case(shape, count, call);
+    let request = &case.request;
+    let mut replies: Vec<Reply> = [library_checked, library_core]
+        .iter()
+        .map(|side| side(&mut case.record.clone(), request))
+        .collect();
+    let models = [model_checked, model_core, scan_checked];
+    replies.extend(
+        models
+            .iter()
+            .map(|side| side(&mut session.clone(), request)),
+    );
+    assert!(replies[0].is_accepted(), "{name} {count} {call}");
+    assert!(
+        replies.iter().all(|reply| *reply == replies[0]),
+        "{name} {count} {call}: {replies:?}"
+    );
+}
+
+fn heading(text: &str) {
+    println!();
+    println!("### {text}");
+    println!();
+}
+
+/// A line's part on the cores; admission has none.
+fn core_part(call: &str, library: f64, model: f64) -> String {
+    if call == "admit" {
+        return "| | |".to_string();
+    }
+    format!("{library:.0} | {model:.0} | {:.2} |", library / model)
+}
+
+fn print_times() {
+    heading("Time of a call, in ns");
+    println!("| Table | Rows | Call | Checked | Model | Ratio | Core | Model | Ratio | Checked, of a 1 ms tick |");
+    println!("|---|---:|---|---:|---:|---:|---:|---:|---:|---:|");
+    for (shape, name, count) in tables(&ROWS) {
+        for call in CALLS {
+            let (case, session) = case(shape, count, call);
+            let (record, request) = (&case.record, &case.request);
+            let [library, model, library_core, model_core] = medians(
+                BATCHES,
+                [
+                    side(record, BATCH, |record| library_checked(record, request)),
+                    side(&session, BATCH, |session| model_checked(session, request)),
+                    side(record, BATCH, |record| library_core(record, request)),
+                    side(&session, BATCH, |session| model_core(session, request)),
+                ],
+            );
+            println!(
+                "| {name} | {count} | {call} | {library:.0} | {model:.0} | {:.2} | {} {:.3} % |",
+                library / model,
+                core_part(call, library_core, model_core),
+                100.0 * library / TICK_NS
+            );
+        }
+    }
+}
+
+fn print_scan() {
+    heading("Checked calls beside a model that scans ticks");
+    println!(
+        "| Table | Rows | Busy length | Call | Library µs | Scanning model µs | Times as fast |"
+    );
+    println!("|---|---:|---:|---|---:|---:|---:|");
+    for (shape, name, count) in tables(&ROWS) {
+        if shape != Shape::Long {
+            continue;
+        }
+        let busy = busy(shape, count);
+        for call in CALLS {
+            let (case, session) = case(shape, count, call);
+            let request = &case.request;
+            let [library, scan] = medians(
+                5,
+                [
+                    side(&case.record, BATCH, |record| {
+                        library_checked(record, request)
+                    }),
+                    side(&session, 1, |session| scan_checked(session, request)),
+                ],
+            );
+            println!(
+                "| {name} | {count} | {busy} | {call} | {:.2} | {:.0} | {:.0} |",
+                library / 1_000.0,
+                scan / 1_000.0,
+                scan / library
+            );
+        }
+    }
+}
+
+/// Instructions within the functions of a counted run, by table, rows and call.
+type Counts = HashMap<(&'static str, u32, &'static str), HashMap<String, u64>>;
+
+fn make_counted_calls(shape: Shape, count: u32, call: &str) {
+    let (case, session) = case(shape, count, call);
+    let (record, request) = (&case.record, &case.request);
+    repeat(record, COUNTED, |record| library_checked(record, request));
+    repeat(record, COUNTED, |record| library_core(record, request));
+    repeat(&session, COUNTED, |session| model_checked(session, request));
+    repeat(&session, COUNTED, |session| model_core(session, request));
+}
+
+fn count_all(scratch: &Path) -> Counts {
+    let mut counts = Counts::new();
+    for (shape, name, count) in tables(&GROWTH) {
+        for call in CALLS {
+            let shape = (shape as usize).to_string();
+            let rows = count.to_string();
+            let arguments = ["--shape", &shape, "--rows", &rows, "--call", call];
+            counts.insert((name, count, call), functions(scratch, &arguments));
+        }
+    }
+    counts
+}
+
+/// The instructions of one call on a side, which is the name of its function.
+fn instructions(
+    counts: &Counts,
+    name: &'static str,
+    rows: u32,
+    call: &'static str,
+    side: &str,
+) -> f64 {
+    let total = counts[&(name, rows, call)].get(side).copied();
+    total.unwrap_or_else(|| panic!("{side} was not counted")) as f64 / COUNTED as f64
+}
+
+fn print_counts(counts: &Counts) {
+    heading("Instructions of a call");
+    println!("| Table | Rows | Call | Checked | Model | Ratio | Core | Model | Ratio |");
+    println!("|---|---:|---|---:|---:|---:|---:|---:|---:|");
+    for (_, name, count) in tables(&ROWS) {
+        for call in CALLS {
+            let of = |side| instructions(counts, name, count, call, side);
+            let (library, model) = (of("library_checked"), of("model_checked"));
+            println!(
+                "| {name} | {count} | {call} | {library:.0} | {model:.0} | {:.2} | {}",
+                library / model,
+                core_part(call, of("library_core"), of("model_core"))
+            );
+        }
+    }
+}
+
+fn print_growth(counts: &Counts) {
+    heading("How the instructions of a call grow with the rows");
+    println!("| Table | Call | Form | 1 row | 2 rows | 4 rows | 8 rows | 16 rows |");
+    println!("|---|---|---|---:|---:|---:|---:|---:|");
+    for (shape, name) in SHAPES {
+        for call in CALLS {
+            for (form, side) in [("checked", "library_checked"), ("core", "library_core")] {
+                if call == "admit" && form == "core" {
+                    continue;
+                }
+                let cells = GROWTH.map(|rows| match table(shape, rows) {
+                    Some(_) => format!("{:.0} |", instructions(counts, name, rows, call, side)),
+                    None => "|".to_string(),
+                });
+                println!("| {name} | {call} | {form} | {}", cells.join(" "));
+            }
+        }
+    }
+}
