@@ -7,3 +7,4 @@ pub mod Kept
 pub mod Short
 pub mod Plays
 pub mod Entry
+pub mod Empty
