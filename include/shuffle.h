@@ -138,14 +138,22 @@ shuffle_reply shuffle_arrive(shuffle_session *session, uint64_t row);
 
 /*
  * Chooses what runs next, by n random words, of which the first two at most are
- * looked at. Without words the earliest deadline runs. Refusals: 5, 8.
+ * looked at. Without words the earliest deadline runs. If no job waits: idle,
+ * for 1,000,000 ticks. Refusals: 5, 8.
  */
 shuffle_reply shuffle_choose(shuffle_session *session, const uint32_t *words, size_t n);
 
-/* The choice in force ran for n ticks. Refusals: 5, 9, 10, 12. */
+/*
+ * The choice in force ran for n ticks. Answers its ticks left; at 0 the choice
+ * has ended, and choose is next. Refusals: 5, 9, 10, 12.
+ */
 shuffle_reply shuffle_advance(shuffle_session *session, uint64_t n);
 
-/* The chosen job has finished early. Refusals: 5, 9, 11. */
+/*
+ * The chosen job has finished early, and the choice ends. A job that completes
+ * in the very tick in which its span ends has no choice in force, so this
+ * answers 9: finish it when it is chosen the next time. Refusals: 5, 9, 11.
+ */
 shuffle_reply shuffle_finish(shuffle_session *session);
 
 /* 1 if the record is sound, else 0. */

@@ -1,9 +1,9 @@
 // The shuffled earliest-deadline scheduler: a safe binding to the library.
 //
 // One file to use as a module (`mod shuffle;`, `#[path = ..]` or `include!`), with or without the
-// standard library. Link with `-L native=<folder> -l static=host`. What the calls mean is in
-// docs/SPECIFICATION.md, section 5. The library keeps nothing, has no global state and allocates
-// nothing; calls on different sessions may run on different threads.
+// standard library; Rust 1.82 or later. Link with `-L native=<folder> -l static=host`. What the
+// calls mean is in docs/SPECIFICATION.md, section 5. The library keeps nothing, has no global state
+// and allocates nothing; calls on different sessions may run on different threads.
 
 use core::mem::{offset_of, size_of};
 
@@ -185,18 +185,22 @@ impl Session {
     }
 
     /// Chooses what runs next, by random words, of which the first two at most are looked at.
-    /// Without words the earliest deadline runs. Refusals: 5, 8.
+    /// Without words the earliest deadline runs. If no job waits: idle, for 1,000,000 ticks.
+    /// Refusals: 5, 8.
     pub fn choose(&mut self, words: &[u32]) -> Reply {
         // SAFETY: as for `replace`.
         unsafe { shuffle_choose(self, words.as_ptr(), words.len()) }
     }
 
-    /// The choice in force ran for these ticks. Refusals: 5, 9, 10, 12.
+    /// The choice in force ran for these ticks. Answers its ticks left; at 0 the choice has ended,
+    /// and choose is next. Refusals: 5, 9, 10, 12.
     pub fn advance(&mut self, ticks: u64) -> Reply {
         shuffle_advance(self, ticks)
     }
 
-    /// The chosen job has finished early. Refusals: 5, 9, 11.
+    /// The chosen job has finished early, and the choice ends. A job that completes in the very tick
+    /// in which its span ends has no choice in force, so this answers 9: finish it when it is chosen
+    /// the next time. Refusals: 5, 9, 11.
     pub fn finish(&mut self) -> Reply {
         shuffle_finish(self)
     }

@@ -122,6 +122,7 @@ static void choose(struct plant *p)
 static void end_job(struct plant *p, struct task *t)
 {
     p->late += t->due < p->clock;
+    p->faults += t->ran != t->need;
     t->need = 0;
 }
 

@@ -153,6 +153,7 @@ impl Plant {
     fn end_job(&mut self) {
         let task = &mut self.tasks[self.chosen as usize];
         self.late += u64::from(task.due < self.clock);
+        self.faults += u64::from(task.ran != task.need);
         task.need = 0;
     }
 

@@ -62,7 +62,7 @@ fn place_of(c: u64) -> usize
     0
 }
 
-// 1 if a chosen job with these ticks left is over after n ticks.
+// 1 if c is a row and its job, with `left` ticks remaining, is over after n ticks.
 fn over_after(c: u64, left: u64, n: u64) -> u64
     ensures { λ r. ⌜ r ≡ overBy c left n ⌝ }
 {
@@ -75,14 +75,15 @@ fn over_after(c: u64, left: u64, n: u64) -> u64
     0
 }
 
-// The choice after a step that leaves `left` ticks of it: none after the last.
+// What is chosen after a step that leaves `left` ticks of c: nothing once none is left.
 fn kept(c: u64, left: u64) -> u64
     ensures { λ r. ⌜ r ≡ keptBy c left ⌝ }
 {
     if left == 0 { 0 } else { c }
 }
 
-// n ticks of the choice in force, which nothing refuses. Only the copy is indexed, so that a single one is made.
+// n ticks of the choice in force, where no refusal holds. Only q is indexed, so that the record is not copied once more to
+// read it.
 fn stepped(s: Session, n: u64) -> Outcome
     requires { ⌜ Step s n ⌝ }
     ensures { λ r. ⌜ r ≡ steppedOf s n ⌝ }

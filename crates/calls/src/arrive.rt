@@ -42,6 +42,7 @@ pub fn arrive_sound(s: Session, row: u64) -> Outcome
     }
     let i = row as usize;
     let clock = s.clock;
+    // Only q is indexed, so that the record is not copied once more to read it.
     let mut q = s;
     let j = q.jobs[i];
     if clock < j.next {

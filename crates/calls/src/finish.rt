@@ -23,7 +23,7 @@ pub fn finish_sound(s: Session) -> Outcome
     if c == Session::IDLE {
         return refuse(s, Answer::Idling);
     }
-    // Only the copy is indexed, so that the record is not copied once more to read it.
+    // Only q is indexed, so that the record is not copied once more to read it.
     let mut q = s;
     let i = c as usize;
     let j = q.jobs[i];

@@ -1,4 +1,4 @@
-// The calls that need no choice: a job arrives, the clock rises, the chosen job is over early (docs/SPECIFICATION.md §5.3, §5.5, §5.6).
+// The calls besides choose: a job arrives, the clock rises, the chosen job is over early (docs/SPECIFICATION.md §5.3, §5.5, §5.6).
 pub mod advance;
 pub mod arrive;
 pub mod finish;

@@ -1,5 +1,5 @@
 // The calls on a session record that the host lends (docs/SPECIFICATION.md §5.8). Each hands the record to the call by
-// value and writes back the session that it leaves; a refused call so writes the same value.
+// value and writes back the session that it leaves, so that a refused call writes back the same value.
 ghost use mathlib.Core.Path.{_≡_};
 ghost use mathlib.Core.Bool.{true};
 ghost use Rattle.table.specs.Assess.{Assessed, shownOf};
@@ -20,7 +20,7 @@ pub struct Reply {
     pub used: u64,
 }
 
-// A call of its own, as the laws of proofs/ end in one.
+// A function of its own: the laws in proofs/ are for bodies that end in a call.
 fn seen(o: Outcome) -> Reply
     ensures { λ r. ⌜ r ≡ replyOf o ⌝ }
 {

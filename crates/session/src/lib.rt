@@ -8,7 +8,7 @@ pub mod admit;
 pub mod sound;
 
 // A row's earliest next arrival; and its waiting job's deadline, remaining ticks and budget left (the remaining inversion
-// budget). No job of the row waits where `left` is 0; `due` and `budget` are then 0 too.
+// budget). No job of the row waits where `left` is 0: nothing looks at `due` and `budget` then, and a call leaves 0 there.
 #[repr(C)]
 pub struct Job {
     pub next: u64,
@@ -27,7 +27,8 @@ pub struct Session {
     pub count: u64,
     pub words: [u32; 48],
     pub jobs: [Job; 16],
-    // The choice in force: a row, or 16 for idle, and its ticks left; none is in force where these are 0.
+    // The choice in force: a row, or 16 for idle, and its ticks left. None is in force where `span` is 0; nothing looks at
+    // `chosen` then, and a call leaves 0 there.
     pub chosen: u64,
     pub span: u64,
 }

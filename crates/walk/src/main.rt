@@ -1,6 +1,7 @@
 // Plays the listing of docs/SPECIFICATION.md §7 call by call, and then long walks from fresh sessions, with arrivals and
 // words drawn by 1,664,525 x + 1,013,904,223 modulo 2 to the 32nd. A line of the listing: clock, letter, number, two values.
-// A line of a walk: kind, calls, how many of them were refused, how many with 5, the clock, a sum over all answers.
+// A line of a walk: kind, turns of three or four calls, how many calls were refused, how many with 5, the clock, a sum over
+// all answers.
 ghost use Prim.Native.Nat.{_<_};
 use libc::STDOUT_FILENO;
 use session::Outcome;

@@ -10,7 +10,7 @@ pub enum Shape {
     Loose,
     /// Tight, with a busy length of some thirty ticks.
     Short,
-    /// Tight, with a busy length of 840,000 ticks and more.
+    /// Tight, with a busy length of 839,790 ticks and more.
     Long,
 }
 

@@ -35,7 +35,9 @@ fn main() {
             check(shape, name, count, call);
         }
     }
-    print_times();
+    let times = time_all();
+    print_summary(&times);
+    print_times(&times);
     print_scan();
     let counts = count_all(scratch);
     print_counts(&counts);
@@ -94,13 +96,25 @@ fn core_part(call: &str, library: f64, model: f64) -> String {
     format!("{library:.0} | {model:.0} | {:.2} |", library / model)
 }
 
-fn print_times() {
-    heading("Time of a call, in ns");
-    println!("| Table | Rows | Call | Checked | Model | Ratio | Core | Model | Ratio | Checked, of a 1 ms tick |");
-    println!("|---|---:|---|---:|---:|---:|---:|---:|---:|---:|");
-    for (shape, name, count) in tables(&ROWS) {
+/// The times of one call in ns: the library's, then the model's.
+struct Timed {
+    shape: Shape,
+    name: &'static str,
+    rows: u32,
+    call: &'static str,
+    checked: [f64; 2],
+    core: [f64; 2],
+}
+
+fn ratio([library, model]: [f64; 2]) -> f64 {
+    library / model
+}
+
+fn time_all() -> Vec<Timed> {
+    let mut all = Vec::new();
+    for (shape, name, rows) in tables(&ROWS) {
         for call in CALLS {
-            let (case, session) = case(shape, count, call);
+            let (case, session) = case(shape, rows, call);
             let (record, request) = (&case.record, &case.request);
             let [library, model, library_core, model_core] = medians(
                 BATCHES,
@@ -111,14 +125,94 @@ fn print_times() {
                     side(&session, BATCH, |session| model_core(session, request)),
                 ],
             );
-            println!(
-                "| {name} | {count} | {call} | {library:.0} | {model:.0} | {:.2} | {} {:.3} % |",
-                library / model,
-                core_part(call, library_core, model_core),
-                100.0 * library / TICK_NS
-            );
+            all.push(Timed {
+                shape,
+                name,
+                rows,
+                call,
+                checked: [library, model],
+                core: [library_core, model_core],
+            });
         }
     }
+    all
+}
+
+fn print_times(all: &[Timed]) {
+    heading("Time of a call, in ns");
+    println!("| Table | Rows | Call | Checked | Model | Ratio | Core | Model | Ratio | Checked, of a 1 ms tick |");
+    println!("|---|---:|---|---:|---:|---:|---:|---:|---:|---:|");
+    for timed in all {
+        let [library, model] = timed.checked;
+        println!(
+            "| {} | {} | {} | {library:.0} | {model:.0} | {:.2} | {} {:.3} % |",
+            timed.name,
+            timed.rows,
+            timed.call,
+            ratio(timed.checked),
+            core_part(timed.call, timed.core[0], timed.core[1]),
+            100.0 * library / TICK_NS
+        );
+    }
+}
+
+/// The least and the greatest figures of groups of calls.
+fn print_summary(all: &[Timed]) {
+    heading("The times in short: least to greatest");
+    println!("| Calls | ns | Ratio | Of a 1 ms tick |");
+    println!("|---|---:|---:|---:|");
+    let checked = |shape, rows: &[u32]| -> Vec<[f64; 2]> {
+        let of_group = |timed: &&Timed| timed.shape == shape && rows.contains(&timed.rows);
+        all.iter()
+            .filter(of_group)
+            .map(|timed| timed.checked)
+            .collect()
+    };
+    let core = |calls: &[&str]| -> Vec<[f64; 2]> {
+        let of_group = |timed: &&Timed| calls.contains(&timed.call);
+        all.iter()
+            .filter(of_group)
+            .map(|timed| timed.core)
+            .collect()
+    };
+    print_range(
+        "checked, loose, 1 and 4 rows",
+        &checked(Shape::Loose, &[1, 4]),
+    );
+    print_range("checked, loose, 16 rows", &checked(Shape::Loose, &[16]));
+    print_range(
+        "checked, tight, short, 4 rows",
+        &checked(Shape::Short, &[4]),
+    );
+    print_range(
+        "checked, tight, short, 16 rows",
+        &checked(Shape::Short, &[16]),
+    );
+    print_range("checked, tight, long, 4 rows", &checked(Shape::Long, &[4]));
+    print_range(
+        "checked, tight, long, 16 rows",
+        &checked(Shape::Long, &[16]),
+    );
+    print_range("core of choose", &core(&["choose"]));
+    print_range(
+        "cores of arrive, advance and finish",
+        &core(&["arrive", "advance", "finish"]),
+    );
+}
+
+fn print_range(name: &str, times: &[[f64; 2]]) {
+    let range = |value: fn([f64; 2]) -> f64| {
+        let values = times.iter().map(|pair| value(*pair));
+        let least = values.clone().fold(f64::INFINITY, f64::min);
+        (least, values.fold(0.0, f64::max))
+    };
+    let (least, most) = range(|[library, _]| library);
+    let (low, high) = range(ratio);
+    println!(
+        "| {name} | {least:.0} to {most:.0} | {low:.2} to {high:.2} | {:.3} to {:.3} % |",
+        100.0 * least / TICK_NS,
+        100.0 * most / TICK_NS
+    );
 }
 
 fn print_scan() {
@@ -179,7 +273,7 @@ fn count_all(scratch: &Path) -> Counts {
     counts
 }
 
-/// The instructions of one call on a side, which is the name of its function.
+/// The instructions of one call; `side` is the name of the measured function.
 fn instructions(
     counts: &Counts,
     name: &'static str,

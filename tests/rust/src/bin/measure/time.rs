@@ -3,7 +3,7 @@
 use std::hint::black_box;
 use std::time::Instant;
 
-/// Calls of one batch; their records fit into the fastest memory.
+/// Calls of one batch; their records fit into the first-level cache.
 pub const BATCH: usize = 24;
 /// Batches of each side.
 pub const BATCHES: usize = 400;
@@ -29,7 +29,7 @@ pub fn side<'a, S: Clone, R>(
 }
 
 /// The median of each side, batch by batch in turn, so that a change of the
-/// machine's pace meets all sides.
+/// machine's speed affects all sides alike.
 pub fn medians<const N: usize>(batches: usize, mut sides: [Side; N]) -> [f64; N] {
     let mut times = [(); N].map(|()| Vec::with_capacity(batches));
     for _ in 0..batches {
