@@ -27,7 +27,7 @@ use Rattle.session.specs.Sound.{sound}
 use Rattle.session.specs.Facts.{Facts, Choice, Running, facts-of, facts-fit}
 use Rattle.session.specs.Ahead.{aheadBy, DueOf, ahead-is}
 use Rattle.session.specs.Soundness.{rows-count}
-use Rattle.session.specs.Calls.{refused, accepted, changed, arrivedJob, arriveIn, overJob, agedJob, agedJobs, overAfter, advanceIn, finishIn}
+use Rattle.session.specs.Calls.{refused, changed, steppedOf, arrivedJob, arriveIn, overJob, agedJob, agedJobs, overAfter, advanceIn, finishIn}
 
 -- ---- what soundness gives the code
 
@@ -250,17 +250,11 @@ kept-is c span n l =
     dite (ℕ-discrete span n) (λ e. simp (eq-eqb span n e, eq-eqb (span - n) 0 (omega arith)))
     (λ ne. simp (ne-eqb span n ne, ne-eqb (span - n) 0 (λ z. ne (omega arith))))
 
--- a step that nothing refuses, and what it makes of the session
+-- a step that nothing refuses
 pub record Step (s : Session) (n : ℕ) : Type 0 where
   pub bounds : ChoiceBounds s
   pub within : n ≤ s .span
   pub ends : s .clock + n ≤ clockEnd
-
-abbrev pub steppedOf : Session → ℕ → Outcome
-steppedOf s n =
-    accepted
-    (changed s (s .clock + n) (agedJobs s n (s .count)) (cond (eqb (s .span) n) 0 (s .chosen)) (s .span - n))
-    (Advanced (s .span - n) (overAfter s n))
 
 pub stepped-is : (s q : Session) (n i m at x y : ℕ) → Step s n → q ≡ agedTo s n i → i ≤ m → m ≤ i → m ≡ s .count → at ≡ placeOf (s .chosen)
     → x ≡ keptBy (s .chosen) (s .span - n) → y ≡ overBy (s .chosen) (jobAt s at .left) n

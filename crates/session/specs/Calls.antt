@@ -117,15 +117,18 @@ agedJobs s n k = foldTo (λ l i. set l i (agedJob s n i)) (s .jobs) k
 unfoldable pub overAfter : Session → ℕ → ℕ
 overAfter s n = cond (eqb (s .chosen) idle) 0 (cond (eqb (jobAt s (s .chosen) .left) n) 1 0)
 
--- a used-up span ends the choice
+-- n ticks of the choice in force; a used-up span ends it
+abbrev pub steppedOf : Session → ℕ → Outcome
+steppedOf s n =
+    accepted
+    (changed s (s .clock + n) (agedJobs s n (s .count)) (cond (eqb (s .span) n) 0 (s .chosen)) (s .span - n))
+    (Advanced (s .span - n) (overAfter s n))
+
 unfoldable pub advanceIn : Session → ℕ → Outcome
 advanceIn s n =
     cond (eqb (s .span) 0) (refused s NoChoice)
     (cond (eqb n 0 || ltb (s .span) n) (refused s (BadStep (s .span)))
-    (cond (ltb clockEnd (s .clock + n)) (refused s ClockEnd)
-    (accepted
-    (changed s (s .clock + n) (agedJobs s n (s .count)) (cond (eqb (s .span) n) 0 (s .chosen)) (s .span - n))
-    (Advanced (s .span - n) (overAfter s n)))))
+    (cond (ltb clockEnd (s .clock + n)) (refused s ClockEnd) (steppedOf s n)))
 
 -- ---- finish
 

@@ -156,48 +156,50 @@ fn print_times(all: &[Timed]) {
     }
 }
 
-/// The least and the greatest figures of groups of calls.
+/// Calls whose figures lie close together.
+type Group = (&'static str, fn(&Timed) -> bool);
+
+const CHECKED: [Group; 6] = [
+    ("checked, loose, 1 and 4 rows", |timed| {
+        timed.shape == Shape::Loose && timed.rows < 16
+    }),
+    ("checked, loose, 16 rows", |timed| {
+        timed.shape == Shape::Loose && timed.rows == 16
+    }),
+    ("checked, tight, short, 4 rows", |timed| {
+        timed.shape == Shape::Short && timed.rows < 16
+    }),
+    ("checked, tight, short, 16 rows", |timed| {
+        timed.shape == Shape::Short && timed.rows == 16
+    }),
+    ("checked, tight, long, 4 rows", |timed| {
+        timed.shape == Shape::Long && timed.rows < 16
+    }),
+    ("checked, tight, long, 16 rows", |timed| {
+        timed.shape == Shape::Long && timed.rows == 16
+    }),
+];
+
+const CORES: [Group; 2] = [
+    ("core of choose", |timed| timed.call == "choose"),
+    ("cores of arrive, advance and finish", |timed| {
+        !matches!(timed.call, "admit" | "choose")
+    }),
+];
+
+/// The least and the greatest figures of each group.
 fn print_summary(all: &[Timed]) {
     heading("The times in short: least to greatest");
     println!("| Calls | ns | Ratio | Of a 1 ms tick |");
     println!("|---|---:|---:|---:|");
-    let checked = |shape, rows: &[u32]| -> Vec<[f64; 2]> {
-        let of_group = |timed: &&Timed| timed.shape == shape && rows.contains(&timed.rows);
-        all.iter()
-            .filter(of_group)
-            .map(|timed| timed.checked)
-            .collect()
-    };
-    let core = |calls: &[&str]| -> Vec<[f64; 2]> {
-        let of_group = |timed: &&Timed| calls.contains(&timed.call);
-        all.iter()
-            .filter(of_group)
-            .map(|timed| timed.core)
-            .collect()
-    };
-    print_range(
-        "checked, loose, 1 and 4 rows",
-        &checked(Shape::Loose, &[1, 4]),
-    );
-    print_range("checked, loose, 16 rows", &checked(Shape::Loose, &[16]));
-    print_range(
-        "checked, tight, short, 4 rows",
-        &checked(Shape::Short, &[4]),
-    );
-    print_range(
-        "checked, tight, short, 16 rows",
-        &checked(Shape::Short, &[16]),
-    );
-    print_range("checked, tight, long, 4 rows", &checked(Shape::Long, &[4]));
-    print_range(
-        "checked, tight, long, 16 rows",
-        &checked(Shape::Long, &[16]),
-    );
-    print_range("core of choose", &core(&["choose"]));
-    print_range(
-        "cores of arrive, advance and finish",
-        &core(&["arrive", "advance", "finish"]),
-    );
+    for (name, is_in) in CHECKED {
+        let group = all.iter().filter(|timed| is_in(timed));
+        print_range(name, &group.map(|timed| timed.checked).collect::<Vec<_>>());
+    }
+    for (name, is_in) in CORES {
+        let group = all.iter().filter(|timed| is_in(timed));
+        print_range(name, &group.map(|timed| timed.core).collect::<Vec<_>>());
+    }
 }
 
 fn print_range(name: &str, times: &[[f64; 2]]) {
