@@ -2,7 +2,7 @@
 use Prim.Native.Nat.{ℕ, _+_, _-_, _*_, _≤_, _<_}
 use mathlib.Core.Path.{_≡_, refl, sym, ap, _∙_}
 use mathlib.Core.Bool.{Bool, true, false, cond}
-use mathlib.Core.Logic.{_⊎_, ⊎-elim, dite}
+use mathlib.Core.Logic.{⊎-elim, dite}
 use native.Mathlib.Numerals.{add-one}
 use native.Mathlib.Omega.{arith}
 use native.Mathlib.Decide.{ℕ-discrete}
@@ -27,7 +27,7 @@ use Rattle.session.specs.Sound.{sound}
 use Rattle.session.specs.Facts.{Facts, Choice, Running, facts-of, facts-fit}
 use Rattle.session.specs.Ahead.{aheadBy, DueOf, ahead-is}
 use Rattle.session.specs.Soundness.{rows-count}
-use Rattle.session.specs.Calls.{refused, changed, steppedOf, arrivedJob, arriveIn, overJob, agedJob, agedJobs, overAfter, advanceIn, finishIn}
+use Rattle.session.specs.Calls.{refused, changed, steppedOf, arrivedBy, arrivedJob, arriveIn, overJob, agedJob, agedJobs, overBy, overAfter, advanceIn, finishIn}
 
 -- ---- what soundness gives the code
 
@@ -56,9 +56,6 @@ in-force s e ne = let f = facts-of s e in ⊎-elim (λ z. absurd (ne z)) (λ c. 
 pub row-place : (s : Session) (row : ℕ) → sound s ≡ true → row < s .count → row < 16
 row-place s row e l = let f = facts-of s e in omega (arith, f .few)
 
-pub bounds-place : (s : Session) → ChoiceBounds s → (s .chosen ≡ idle → ⊥) → s .chosen < 16
-bounds-place s b ne = b .row ne
-
 pub chosen-place : (s : Session) → sound s ≡ true → (s .span ≡ 0 → ⊥) → (s .chosen ≡ idle → ⊥) → s .chosen < 16
 chosen-place s e n ne = in-force s e n .row ne
 
@@ -66,17 +63,13 @@ chosen-place s e n ne = in-force s e n .row ne
 pub place-fits : (i : ℕ) → i < 16 → Fits w64 (i * 32)
 place-fits i l = record { fits = omega arith }
 
-pub ruleset places = (row-place, bounds-place, chosen-place, place-fits)
+pub ruleset places = (row-place, chosen-place, place-fits)
 
 -- a step of the clock does not wrap
 pub step-fits : (s : Session) (n : ℕ) → sound s ≡ true → (s .span ≡ 0 → ⊥) → n ≤ s .span → Fits w64 (s .clock + n)
 step-fits s n e ne l = let b = in-force s e ne in record { fits = omega (arith, b .clock, b .small) }
 
 -- ---- arrive
-
--- the job that arrives in row i of a table
-abbrev pub arrivedBy : TaskSet → ℕ → ℕ → ℕ → Job
-arrivedBy τ i clock kind = record { next = clock + τ .T i; due = clock + τ .D i; left = τ .C i; budget = startBudget kind τ i }
 
 -- w is what the machine reads back of V
 pub arrived-is : (τ : TaskSet) (i clock kind start : ℕ) (k : Task) (v w : ℤ) → FitRow τ i k → v ≡ budgetOf τ i → w ≡ v → start ≡ startBy kind w
@@ -203,10 +196,6 @@ aged-next s q n i at j e b p f =
     let g : j ≡ agedJob s n i =
     f ∙ ap (λ (z : Job). agedBy z i (s .chosen) (jobAt s at .due) n) (aged-past s q n i e) ∙ aged-row s (jobAt s at .due) n i (place-due s at b p) in
     rw (add-one, e) (ap (λ (z : Job). changed s (s .clock) (set (agedJobs s n i) i z) (s .chosen) (s .span)) g)
-
--- 1 if a chosen job with these ticks left is over after n ticks
-unfoldable pub overBy : ℕ → ℕ → ℕ → ℕ
-overBy c left n = cond (eqb c idle) 0 (cond (eqb left n) 1 0)
 
 module _ (c left n : ℕ) where
   pub over-idle : c ≡ idle → 0 ≡ overBy c left n

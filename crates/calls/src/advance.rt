@@ -4,8 +4,8 @@ ghost use mathlib.Core.Bool.{true};
 ghost use Prim.Native.Nat.{_-_};
 ghost use Rattle.table.specs.Bound.{Within};
 ghost use Rattle.session.specs.Sound.{sound};
-ghost use Rattle.session.specs.Calls.{steppedOf, advanceIn, advanceOf};
-ghost use Rattle.calls.specs.Code.{agedBy, placeOf, overBy, keptBy, Step};
+ghost use Rattle.session.specs.Calls.{overBy, steppedOf, advanceIn, advanceOf};
+ghost use Rattle.calls.specs.Code.{agedBy, placeOf, keptBy, Step};
 use session::Answer;
 use session::Job;
 use session::Outcome;
@@ -112,7 +112,7 @@ fn stepped(s: Session, n: u64) -> Outcome
     }
 }
 
-// For callers who can prove that the session is sound.
+// `advance` without its check, for callers who can prove that the session is sound.
 pub fn advance_sound(s: Session, n: u64) -> Outcome
     requires { ⌜ sound s ≡ true ⌝ }
     ensures { λ r. ⌜ r ≡ advanceIn s n ⌝ }

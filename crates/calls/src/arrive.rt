@@ -5,8 +5,7 @@ ghost use Prim.Native.Nat.{_≤_, _<_};
 ghost use Rattle.table.specs.Rows.{tasksOf, Fit};
 ghost use Rattle.session.specs.Reading.{clockEnd};
 ghost use Rattle.session.specs.Sound.{sound};
-ghost use Rattle.session.specs.Calls.{arriveIn, arriveOf};
-ghost use Rattle.calls.specs.Code.{arrivedBy};
+ghost use Rattle.session.specs.Calls.{arrivedBy, arriveIn, arriveOf};
 use session::Answer;
 use session::Job;
 use session::Outcome;
@@ -31,7 +30,7 @@ fn arriving(rows: &[u32], i: usize, clock: u64, kind: u64) -> Job
     }
 }
 
-// For callers who can prove that the session is sound.
+// `arrive` without its check, for callers who can prove that the session is sound.
 pub fn arrive_sound(s: Session, row: u64) -> Outcome
     requires { ⌜ sound s ≡ true ⌝ }
     ensures { λ r. ⌜ r ≡ arriveIn s row ⌝ }

@@ -10,7 +10,7 @@ use session::Session;
 use session::refuse;
 use session::sound::is_sound;
 
-// For callers who can prove that the session is sound.
+// `finish` without its check, for callers who can prove that the session is sound.
 pub fn finish_sound(s: Session) -> Outcome
     requires { ⌜ sound s ≡ true ⌝ }
     ensures { λ r. ⌜ r ≡ finishIn s ⌝ }

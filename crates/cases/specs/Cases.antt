@@ -24,7 +24,7 @@ use Rattle.session.specs.Reading.{idle, noJob, rowsOf, waits, ahead, startBy, s
 use Rattle.session.specs.Sound.{soundRows, soundWaiting, soundJob, runs, affords, soundChoice, sound}
 use Rattle.session.specs.Order.{before, isHead, headOf, permits, candidate, candidates, position, rowWith, candidateAt}
 use Rattle.session.specs.Choose.{draw, drawn, pickOf, room, unopposed, lengthDrawn, spanOf, pickUsed, usedOf}
-use Rattle.session.specs.Calls.{Shown, shown, three, arriveIn, chooseIn, agedJob, agedJobs, overAfter, advanceIn, finishIn, arriveOf, chooseOf, advanceOf, finishOf}
+use Rattle.session.specs.Calls.{Shown, shown, three, arriveIn, chooseIn, agedJob, agedJobs, overBy, overAfter, advanceIn, finishIn, arriveOf, chooseOf, advanceOf, finishOf}
 use Rattle.guarantee.specs.Ledger.{Call, arrive, choose, advance, finish}
 use Rattle.guarantee.specs.Statement.{outcomeOf}
 use Rattle.table.specs.Compute.{quietTo, busy-is, not-overloaded, first-over, is-overloaded, answer-over, answer-tight}
@@ -223,7 +223,7 @@ All [] = Unit
 All (c ∷ l) = Holds c × All l
 
 pub every-case : All cases
-unfolding cases answerOf opinionOf badLength firstBroken broken rowRule tasksOf loose looseTo allTo budgetOf valuesOf valuesTo foldTo interference demand request sumTo gate jobsBy ceilDiv leastFrom rowsOf waits ahead startBy startBudget soundRows soundWaiting soundJob runs affords soundChoice sound before isHead headOf permits candidate candidates position rowWith candidateAt draw drawn pickOf room unopposed lengthDrawn spanOf pickUsed usedOf arriveIn chooseIn agedJob agedJobs overAfter advanceIn finishIn arriveOf chooseOf advanceOf finishOf
+unfolding cases answerOf opinionOf badLength firstBroken broken rowRule tasksOf loose looseTo allTo budgetOf valuesOf valuesTo foldTo interference demand request sumTo gate jobsBy ceilDiv leastFrom rowsOf waits ahead startBy startBudget soundRows soundWaiting soundJob runs affords soundChoice sound before isHead headOf permits candidate candidates position rowWith candidateAt draw drawn pickOf room unopposed lengthDrawn spanOf pickUsed usedOf arriveIn chooseIn agedJob agedJobs overBy overAfter advanceIn finishIn arriveOf chooseOf advanceOf finishOf
 every-case =
     (refl, (refl, (heavy-verdict, (refl, (rw heavy-busy, (long-verdict, (rw long-busy, (refl, (refl, (over-verdict, (over-exceeded, (refl, (refl, listed)))))))))))))
   where

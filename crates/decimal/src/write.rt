@@ -6,6 +6,7 @@ ghost use lib.ListN.{length};
 ghost use Rattle.decimal.specs.Decimal.{decimal};
 ghost use Rattle.decimal.specs.Buffer.{Wrote};
 
+// Internal: the caller has seen to the room for one byte.
 pub fn put_byte(out: &mut [u8], at: usize, b: u8) -> usize
     requires { ⌜ at < length (now out) ⌝ }
     ensures { λ r. ⌜ Wrote 1 (b ∷ []) (now (out .entry)) (now (out .exit)) at r ⌝ }
@@ -26,7 +27,7 @@ fn put_digits(out: &mut [u8], at: usize, n: u64) -> usize
     put_byte(out, e, 48 + ((n % 10) as u8))
 }
 
-// A number and one byte after it: a tab or a newline.
+// A number and one byte after it: a tab or a newline. Internal: the caller has seen to the room for the longest number.
 pub fn put_number(out: &mut [u8], at: usize, n: u64, last: u8) -> usize
     requires { ⌜ at + 21 ≤ length (now out) ⌝ }
     ensures { λ r. ⌜ Wrote 21 (decimal n ++ last ∷ []) (now (out .entry)) (now (out .exit)) at r ⌝ }

@@ -78,9 +78,7 @@ pub fn admit(s: &mut Session, words: &[u32]) -> Assessment
     verdict(a)
 }
 
-// ---- the same without the check
-
-// For callers who can prove that the record is sound.
+// `arrive` without its check, for callers who can prove that the record is sound.
 pub fn arrive_sound(s: &mut Session, row: u64) -> Reply
     requires { ⌜ sound (now s) ≡ true ⌝ }
     ensures { λ r. ⌜ (r ≡ replyOf (arriveIn (now (s .entry)) row)) × (now (s .exit) ≡ arriveIn (now (s .entry)) row .session) ⌝ }
@@ -90,7 +88,7 @@ pub fn arrive_sound(s: &mut Session, row: u64) -> Reply
     seen(o)
 }
 
-// For callers who can prove that the record is sound.
+// `choose` without its check, for callers who can prove that the record is sound.
 pub fn choose_sound(s: &mut Session, words: &[u32]) -> Reply
     requires { ⌜ sound (now s) ≡ true ⌝ }
     ensures { λ r. ⌜ (r ≡ replyOf (chooseIn (now (s .entry)) (now (words .entry)))) × (now (s .exit) ≡ chooseIn (now (s .entry)) (now (words .entry)) .session) ⌝ }
@@ -100,7 +98,7 @@ pub fn choose_sound(s: &mut Session, words: &[u32]) -> Reply
     seen(o)
 }
 
-// For callers who can prove that the record is sound.
+// `advance` without its check, for callers who can prove that the record is sound.
 pub fn advance_sound(s: &mut Session, n: u64) -> Reply
     requires { ⌜ sound (now s) ≡ true ⌝ }
     ensures { λ r. ⌜ (r ≡ replyOf (advanceIn (now (s .entry)) n)) × (now (s .exit) ≡ advanceIn (now (s .entry)) n .session) ⌝ }
@@ -110,7 +108,7 @@ pub fn advance_sound(s: &mut Session, n: u64) -> Reply
     seen(o)
 }
 
-// For callers who can prove that the record is sound.
+// `finish` without its check, for callers who can prove that the record is sound.
 pub fn finish_sound(s: &mut Session) -> Reply
     requires { ⌜ sound (now s) ≡ true ⌝ }
     ensures { λ r. ⌜ (r ≡ replyOf (finishIn (now (s .entry)))) × (now (s .exit) ≡ finishIn (now (s .entry)) .session) ⌝ }

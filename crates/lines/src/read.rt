@@ -147,8 +147,8 @@ pub struct Next {
     pub at: usize,
 }
 
-// The line that begins at a place of the text. Bytes after the last newline are one more line, and unreadable. Internal:
-// its callers have tested that the place is within the text.
+// The line that begins at a place of the text. Bytes after the last newline are one more line, and unreadable.
+// Internal: its callers have tested that the place is within the text.
 pub fn next_line(text: &[u8], at: usize) -> Next
     requires { ⌜ at < length (now text) ⌝ }
     ensures { λ r. ⌜ Took (now (text .entry)) at r ⌝ }

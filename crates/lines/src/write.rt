@@ -17,7 +17,7 @@ fn put_letter(out: &mut [u8], at: usize, letter: u8) -> usize
     put_byte(out, e, 9)
 }
 
-// A line up to its second value, which may be signed.
+// A line up to its second value, which may be signed. Internal: the caller has seen to the room for the longest.
 pub fn put_head(out: &mut [u8], at: usize, clock: u64, letter: u8, number: u64, first: u64) -> usize
     requires { ⌜ at + 65 ≤ length (now out) ⌝ }
     ensures { λ r. ⌜ Wrote 65 (headText clock letter number first) (now (out .entry)) (now (out .exit)) at r ⌝ }
@@ -28,6 +28,7 @@ pub fn put_head(out: &mut [u8], at: usize, clock: u64, letter: u8, number: u64, 
     put_number(out, g, first, 9)
 }
 
+// Internal: the caller has seen to the room for the longest line.
 pub fn put_line(
     out: &mut [u8],
     at: usize,

@@ -1,6 +1,6 @@
 // Runs the cases on standard input through the library, one after another. A case is its length on a line and then as many
 // bytes; what is written for it is followed by the line `--`.
-ghost use Prim.Native.Nat.{_≤_, _<_};
+ghost use Prim.Native.Nat.{_<_};
 ghost use lib.ListN.{length};
 ghost use Rattle.replay.specs.Case.{Past};
 use decimal::read::Number;

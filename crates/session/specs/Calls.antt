@@ -6,6 +6,7 @@ use mathlib.Core.List.{List}
 use lib.Dec.{leb, ltb, eqb}
 use lib.ListN.{set}
 use Rattle.bounded.specs.Fold.{foldTo}
+use Rattle.edf.specs.Demand.{TaskSet}
 use Rattle.session.specs.declared.Job.{Job}
 use Rattle.session.specs.declared.Session.{Session}
 use Rattle.session.specs.declared.Numbers.{Numbers}
@@ -67,13 +68,11 @@ changed s clock jobs c n = record {
 -- ---- arrive
 
 -- earliest next arrival clock + T; the job waits with deadline clock + D, remaining C, and the starting budget
+abbrev pub arrivedBy : TaskSet → ℕ → ℕ → ℕ → Job
+arrivedBy τ row clock kind = record { next = clock + τ .T row; due = clock + τ .D row; left = τ .C row; budget = startBudget kind τ row }
+
 abbrev pub arrivedJob : Session → ℕ → Job
-arrivedJob s row = record {
-  next = s .clock + tasks s .T row;
-  due = s .clock + tasks s .D row;
-  left = tasks s .C row;
-  budget = startBudget (s .kind) (tasks s) row;
-}
+arrivedJob s row = arrivedBy (tasks s) row (s .clock) (s .kind)
 
 -- a choice in force is dropped
 unfoldable pub arriveIn : Session → ℕ → Outcome
@@ -113,9 +112,13 @@ agedJob s n i =
 unfoldable pub agedJobs : Session → ℕ → ℕ → List Job
 agedJobs s n k = foldTo (λ l i. set l i (agedJob s n i)) (s .jobs) k
 
+-- 1 if c is a row and its job, with so many ticks remaining, is over after n of them
+unfoldable pub overBy : ℕ → ℕ → ℕ → ℕ
+overBy c left n = cond (eqb c idle) 0 (cond (eqb left n) 1 0)
+
 -- 1 if the chosen job is over after n ticks
 unfoldable pub overAfter : Session → ℕ → ℕ
-overAfter s n = cond (eqb (s .chosen) idle) 0 (cond (eqb (jobAt s (s .chosen) .left) n) 1 0)
+overAfter s n = overBy (s .chosen) (jobAt s (s .chosen) .left) n
 
 -- n ticks of the choice in force; a used-up span ends it
 abbrev pub steppedOf : Session → ℕ → Outcome

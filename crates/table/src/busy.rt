@@ -1,6 +1,5 @@
 // The busy length (the synchronous busy period; docs/SPECIFICATION.md §2.4).
-ghost use mathlib.Core.Path.{_≡_};
-ghost use Prim.Native.Nat.{_<_, _≤_};
+ghost use Prim.Native.Nat.{_<_};
 ghost use Rattle.table.specs.Rows.{tasksOf, Fit};
 ghost use Rattle.table.specs.Busy.{Settled};
 use super::leap::further;

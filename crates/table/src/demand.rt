@@ -1,5 +1,4 @@
 // What falls due by a tick, of one row and of all (the demand bound function; docs/SPECIFICATION.md §2.3).
-ghost use mathlib.Core.Path.{_≡_};
 ghost use Prim.Native.Nat.{_<_, _≤_};
 ghost use Rattle.edf.specs.Jobs.{jobsBy};
 ghost use Rattle.edf.specs.Demand.{rowDemand, demand};

@@ -1,33 +1,29 @@
 -- From the table to the calls, and the entry point. Assumes nothing.
 use Prim.Native.Nat.{ℕ, suc, _+_, _-_, _*_, _/_, _≤_, _<_, min}
 use mathlib.Core.Path.{_≡_, refl, sym, ap, subst, _∙_}
-use mathlib.Core.Bool.{true, false}
-use mathlib.Core.List.{List, [], _∷_, _++_, append-nil}
+use mathlib.Core.Bool.{false}
+use mathlib.Core.List.{List, [], _++_, append-nil}
 use mathlib.Core.Logic.{dite}
 use native.Mathlib.Omega.{arith}
 use native.Mathlib.Decide.{decLe}
-use lib.ListN.{length, take, drop}
+use lib.ListN.{length, take}
 use lib.Seq.{take-all, length-take-le}
 use borrow.Author.Tests.{eq-eqb, ne-eqb}
 use Rattle.decimal.specs.Buffer.{Wrote, overlay, overlay-length, wrote-more}
 use Rattle.lines.specs.declared.read.Line.{Line}
 use Rattle.lines.specs.Lines.{linesOf}
 use Rattle.table.specs.declared.Numbers.{Numbers}
-use Rattle.table.specs.declared.Assessment.{Assessment}
 use Rattle.table.specs.Rows.{tasksOf}
 use Rattle.table.specs.Verdict.{Answer, answerOf, Exceeded}
-use Rattle.table.specs.Assess.{shownOf, Shows, shows-of, Assessed}
+use Rattle.table.specs.Assess.{shownOf, Shows, shows-of}
 use Rattle.table.specs.Theorems.{answer-rows}
-use Rattle.session.specs.declared.Session.{Session}
 use Rattle.session.specs.declared.admit.Admission.{Admission}
-use Rattle.session.specs.Reading.{rowsOf}
-use Rattle.session.specs.Admit.{sessionOf, Admitted}
+use Rattle.session.specs.Admit.{Admitted}
 use Rattle.guarantee.specs.Good.{Good}
 use Rattle.guarantee.specs.KeepsFresh.{good-fresh}
 use Rattle.transcript.specs.declared.step.Play.{Play}
 use Rattle.transcript.specs.declared.rows.Rows.{Rows}
-use Rattle.transcript.specs.Step.{callsText}
-use Rattle.transcript.specs.Transcript.{inputLimit, inputLines, rowLimit, rowsIn, afterRows, admissionText, printedOf, roomFor, Printed, Transcribed, tooShort, printed}
+use Rattle.transcript.specs.Transcript.{inputLimit, inputLines, rowLimit, rowsIn, admissionText, printedOf, roomFor, Printed, Transcribed, tooShort, printed}
 use Rattle.transcript.specs.Table.{Stated}
 use Rattle.transcript.specs.Plays.{roomOf, Begun, owed}
 

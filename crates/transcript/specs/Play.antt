@@ -13,7 +13,7 @@ use Rattle.bounded.specs.Tests.{both, and-true, gate-on, gate-off}
 use Rattle.decimal.specs.Buffer.{Wrote, overlay-none}
 use Rattle.lines.specs.declared.read.Call.{Call}
 use Rattle.lines.specs.declared.read.Call.the-variants.{Arrive, Choose, Advance, Finish}
-use Rattle.lines.specs.declared.read.Line.the-variants.{Row, Word, Call as CallLine, Unreadable}
+use Rattle.lines.specs.declared.read.Line.the-variants.{Word, Call as CallLine}
 use Rattle.lines.specs.Text.{lineText}
 use Rattle.session.specs.declared.Session.{Session}
 use Rattle.session.specs.declared.Answer.{Answer}
@@ -25,7 +25,7 @@ use Rattle.session.specs.Order.{headOf, candidates}
 use Rattle.session.specs.Choose.{drawn, unopposed, lengthDrawn, pickOf, pickUsed, usedOf}
 use Rattle.session.specs.Calls.{Shows, shown, arriveIn, arriveOf, chooseIn, chooseOf, advanceIn, advanceOf, finishIn, finishOf}
 use Rattle.transcript.specs.declared.step.Play.{Play}
-use Rattle.transcript.specs.Step.{Step, queueLimit, letterOf, callOf, answerText, told, unread, queued, stepOf}
+use Rattle.transcript.specs.Step.{Step, queueLimit, letterOf, callOf, answerText, unread, queued, stepOf}
 
 -- the words that wait, among all words queued so far
 abbrev pub queueOf : List ℕ → Play → List ℕ

@@ -1,7 +1,6 @@
 // The lines after the table, one after another (docs/SPECIFICATION.md §8.4).
 ghost use Prim.Native.Nat.{_-_};
 ghost use mathlib.Core.List.{[]};
-ghost use lib.ListN.{length};
 ghost use Rattle.decimal.specs.Buffer.{Wrote};
 ghost use Rattle.transcript.specs.Plays.{roomOf, Begun, owed};
 use crate::step::Play;
