@@ -7,7 +7,7 @@ use mathlib.Core.Logic.{_⊎_, inl, inr, ⊎-elim}
 use native.Mathlib.Omega.{arith}
 use lib.Dec.{ltb}
 use lib.ListN.{length}
-use borrow.Author.Tests.{leb-true, leb-false, ltb-true, ltb-false, not-true}
+use borrow.Author.Tests.{leb-true, leb-false, ltb-true, ltb-false, le-ltb, not-true}
 use Rattle.bounded.specs.Tests.{both}
 use Rattle.bounded.specs.All.{all-at}
 use Rattle.bounded.specs.Least.{least-at, least-before}
@@ -39,6 +39,14 @@ abbrev pub UnsettledMeans : Type 0
 UnsettledMeans =
     (l : List ℕ) (t : ℕ) → answerOf l t .number ≡ 4
     → ((x : ℕ) → 1 ≤ x → x ≤ horizon → demand (tasksOf l) x ≤ x) × ((r : ℕ) → 1 ≤ r → r ≤ horizon → request (tasksOf l) r ≡ r → ⊥)
+
+-- a table of 1 to 16 rows that keep their rule, whose demand exceeds no t, is refused only with 4, and only where it has no
+-- busy length up to 1,000,000
+abbrev pub FittingRefused : Type 0
+FittingRefused =
+    (l : List ℕ) (t : ℕ) → badLength (length l) ≡ false → firstBroken (tasksOf l) ≡ tasksOf l .rows → Feasible (tasksOf l)
+    → (answerOf l t .number ≡ 0 → ⊥)
+    → (answerOf l t .number ≡ 4) × ((r : ℕ) → 1 ≤ r → r ≤ horizon → request (tasksOf l) r ≡ r → ⊥)
 
 -- ---- the cases of the definitions
 
@@ -147,6 +155,20 @@ unsettled-means l t e = by (outcome l t) e
     by (isFit fit (isTight a b)) z = absurd (omega arith)
     by (isFit fit (isUnsettled a b)) z =
         (unsettled-fits (tasksOf l) fit a b, unsettled-long (tasksOf l) fit b)
+
+pub fitting-refused : FittingRefused
+unfolding answerOf
+fitting-refused l t a b fits =
+    let g = length-fit l a in
+    simp (a, le-ltb (firstBroken (tasksOf l)) (tasksOf l .rows) (omega arith))
+    (by (fit-of (tasksOf l) (g .0) (g .1) (omega arith)) (opinion-case (tasksOf l) t))
+  where
+    by : {n : ℕ} → Fit (tasksOf l) → Opinion (tasksOf l) n → (n ≡ 0 → ⊥)
+        → (n ≡ 4) × ((r : ℕ) → 1 ≤ r → r ≤ horizon → request (tasksOf l) r ≡ r → ⊥)
+    by fit (isLoose x) ne = absurd (ne refl)
+    by fit (isOver x) ne = absurd (omega (arith, overload-exceeded (tasksOf l) fit x, fits (firstOverload (tasksOf l))))
+    by fit (isTight x y) ne = absurd (ne refl)
+    by fit (isUnsettled x y) ne = (refl, unsettled-long (tasksOf l) fit y)
 
 -- an admitted table's rows keep their rule
 pub answer-fit : (l : List ℕ) (t : ℕ) → answerOf l t .number ≡ 0 → Fit (tasksOf l)
