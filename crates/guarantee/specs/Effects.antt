@@ -1,7 +1,8 @@
--- What a call on a sound session does, refused or accepted (docs/SPECIFICATION.md §5.3 to §5.6). Assumes nothing.
+-- What a call on a sound session does, refused or accepted, and on any other (docs/SPECIFICATION.md §5.3 to §5.7). Assumes
+-- nothing.
 use Prim.Native.Nat.{ℕ, _+_, _-_, _≤_, _<_}
 use mathlib.Core.Path.{_≡_}
-use mathlib.Core.Bool.{true, cond}
+use mathlib.Core.Bool.{true, false, cond}
 use mathlib.Core.List.{List}
 use native.Mathlib.Omega.{arith}
 use lib.Dec.{leb, ltb, eqb}
@@ -10,11 +11,11 @@ use borrow.Author.Tests.{leb-false, ltb-false}
 use Rattle.bounded.specs.Tests.{both}
 use Rattle.session.specs.declared.Session.{Session}
 use Rattle.session.specs.declared.Answer.{Answer}
-use Rattle.session.specs.declared.Answer.the-variants.{Arrived, Chosen, Advanced, Finished, NoRow, TooEarly, InForce, NoChoice, BadStep, Idling, ClockEnd}
+use Rattle.session.specs.declared.Answer.the-variants.{Arrived, Chosen, Advanced, Finished, Unsound, NoRow, TooEarly, InForce, NoChoice, BadStep, Idling, ClockEnd}
 use Rattle.session.specs.Reading.{idle, clockEnd, jobAt, tasks}
 use Rattle.session.specs.Sound.{sound}
 use Rattle.session.specs.Choose.{pickOf, pickUsed, spanOf}
-use Rattle.session.specs.Calls.{shown, changed, arrivedJob, arriveIn, chooseIn, overJob, agedJobs, overAfter, advanceIn, finishIn, arriveOf, chooseOf, advanceOf, finishOf}
+use Rattle.session.specs.Calls.{shown, refused, changed, arrivedJob, arriveIn, chooseIn, overJob, agedJobs, overAfter, advanceIn, finishIn, arriveOf, chooseOf, advanceOf, finishOf}
 use Rattle.session.specs.Facts.{Running, Choice}
 use Rattle.guarantee.specs.Ledger.{Call, arrive, choose, advance, finish}
 use Rattle.guarantee.specs.Statement.{outcomeOf}
@@ -58,3 +59,11 @@ effect-of s e finish =
     (both (eqb (s .span) 0) (λ a. simp a (refusal NoChoice (omega arith)))
     (λ a. both (eqb (s .chosen) idle) (λ b. simp (a, b) (refusal Idling (omega arith)))
     (λ b. let c = in-force s e a in simp (a, b) (finished c (running s c b)))))
+
+-- a session that is not sound is refused before all else
+pub unsound-refused : (s : Session) (c : Call) → sound s ≡ false → outcomeOf s c ≡ refused s Unsound
+unfolding arriveOf chooseOf advanceOf finishOf
+unsound-refused s (arrive k) e = simp e
+unsound-refused s (choose w) e = simp e
+unsound-refused s (advance n) e = simp e
+unsound-refused s finish e = simp e

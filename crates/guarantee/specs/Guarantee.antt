@@ -1,4 +1,5 @@
--- The guarantee (docs/SPECIFICATION.md §6.2): each theorem of Statement.antt but two, which Keeps.antt has. Assumes nothing.
+-- The guarantee (docs/SPECIFICATION.md §6.2): the theorems of Statement.antt but those in Keeps.antt and
+-- Tight.antt. Assumes nothing.
 use Prim.Native.Nat.{ℕ}
 use mathlib.Core.List.{List, [], _∷_}
 use Rattle.table.specs.Rows.{tasksOf}

@@ -1,18 +1,22 @@
--- Every session that a list of calls leads to is sound, so no call answers 5 (docs/SPECIFICATION.md §6.2). Assumes nothing.
+-- Every session that a list of calls leads to is sound, so no call answers 5 (docs/SPECIFICATION.md §6.2); a refused table's
+-- record is not sound, so every call does. Assumes nothing.
 use Prim.Native.Nat.{ℕ}
-use mathlib.Core.Path.{_≡_, subst}
+use mathlib.Core.Path.{_≡_, refl, subst}
+use mathlib.Core.Bool.{false}
 use mathlib.Core.List.{List, [], _∷_}
 use native.Mathlib.Omega.{arith}
-use Rattle.table.specs.Verdict.{answerOf}
+use borrow.Author.Tests.{ne-eqb}
+use Rattle.table.specs.Verdict.{badLength, answerOf}
 use Rattle.session.specs.declared.Session.{Session}
 use Rattle.session.specs.declared.Answer.{Answer}
 use Rattle.session.specs.Reading.{rowsOf}
+use Rattle.session.specs.Sound.{soundRows, sound}
 use Rattle.session.specs.Calls.{shown}
-use Rattle.session.specs.Admit.{sessionOf}
+use Rattle.session.specs.Admit.{noSession, sessionOf}
 use Rattle.guarantee.specs.Ledger.{Call}
-use Rattle.guarantee.specs.Statement.{outcomeOf, sessionAfter, AlwaysSound, NeverFive}
+use Rattle.guarantee.specs.Statement.{outcomeOf, sessionAfter, AlwaysSound, NeverFive, AlwaysFive}
 use Rattle.guarantee.specs.Good.{Good}
-use Rattle.guarantee.specs.Effects.{Effect, refusal, arrived, chosen, advanced, finished, effect-of}
+use Rattle.guarantee.specs.Effects.{Effect, refusal, arrived, chosen, advanced, finished, effect-of, unsound-refused}
 use Rattle.guarantee.specs.KeepsArrive.{good-arrive}
 use Rattle.guarantee.specs.KeepsChoose.{good-choose}
 use Rattle.guarantee.specs.KeepsAdvance.{good-advance}
@@ -54,3 +58,13 @@ not-five (finished ch r) z = omega arith
 
 pub never-five : NeverFive
 never-five l t e calls c = not-five (effect-of (sessionAfter (sessionOf l t) calls) (always-sound l t e calls) c)
+
+-- a record without rows is of no table
+none-unsound : sound noSession ≡ false
+unfolding sound soundRows rowsOf answerOf badLength
+none-unsound = refl
+
+pub always-five : AlwaysFive
+unfolding sessionOf
+always-five l t ne c =
+    simp (ne-eqb (answerOf l t .number) 0 ne) (rw (unsound-refused noSession c none-unsound) (refl, refl, refl))

@@ -5,9 +5,8 @@ use mathlib.Core.Bool.{cond}
 use mathlib.Core.List.{List, [], _∷_}
 use lib.Dec.{leb, eqb}
 use Rattle.edf.specs.Demand.{TaskSet}
-use Rattle.session.specs.declared.Answer.{Answer}
 use Rattle.session.specs.Reading.{idle}
-use Rattle.session.specs.Calls.{shown}
+use Rattle.session.specs.Calls.{Shown}
 
 -- the four calls, with any row, words and span
 pub data Call : Type 0 where
@@ -16,10 +15,10 @@ pub data Call : Type 0 where
   advance : ℕ → Call
   finish : Call
 
--- a call and its answer
+-- a call and its answer in numbers, as every form of a call gives it: 0 where the call is accepted, and two values
 pub record Event : Type 0 where
   pub call : Call
-  pub answer : Answer
+  pub answer : Shown
 
 pub data End : Type 0 where
   none : End
@@ -64,13 +63,13 @@ onLatest row f (e ∷ l) = cond (eqb (e .row) row) (f e ∷ l) (e ∷ onLatest r
 -- Advance (n): the clock rises by n. Unless the chosen row is 16, the latest entry of that row runs n more; once its run
 -- is C or more, its end is the clock.
 -- Finish: the latest entry of the chosen row gets the clock as its end.
-unfoldable pub noted : TaskSet → Ledger → Call → Answer → Ledger
+unfoldable pub noted : TaskSet → Ledger → Call → Shown → Ledger
 noted τ g (arrive row) a = record {
   clock = g .clock;
   chosen = g .chosen;
   entries = record { row = row; arrival = g .clock; run = 0; end = none } ∷ g .entries;
 }
-noted τ g (choose l) a = record { clock = g .clock; chosen = shown a .first; entries = g .entries }
+noted τ g (choose l) a = record { clock = g .clock; chosen = a .first; entries = g .entries }
 noted τ g (advance n) a = record {
   clock = g .clock + n;
   chosen = g .chosen;
@@ -84,7 +83,7 @@ noted τ g finish a = record {
 
 -- one event: a refused call changes nothing
 unfoldable pub kept : TaskSet → Ledger → Event → Ledger
-kept τ g e = cond (eqb (shown (e .answer) .number) 0) (noted τ g (e .call) (e .answer)) g
+kept τ g e = cond (eqb (e .answer .number) 0) (noted τ g (e .call) (e .answer)) g
 
 -- the ledger after a list of events, the first of them first
 unfoldable pub ledgerFrom : TaskSet → Ledger → List Event → Ledger

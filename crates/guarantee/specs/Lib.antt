@@ -19,3 +19,4 @@ pub mod TiesJobs
 pub mod Ties
 pub mod Guarantee
 pub mod Exact
+pub mod Tight

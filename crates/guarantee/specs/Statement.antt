@@ -1,16 +1,21 @@
--- What is guaranteed over every list of calls (docs/SPECIFICATION.md §6.2). Definitions only. Assumes nothing.
+-- What is guaranteed over every list of calls (docs/SPECIFICATION.md §6.2), of the record of a refused table (§5.1) and of
+-- a choice in a tight session (§5.4). Definitions only. Assumes nothing.
 use Prim.Native.Nat.{ℕ, _+_, _≤_, _<_}
 use mathlib.Core.Path.{_≡_}
-use mathlib.Core.Bool.{true}
+use mathlib.Core.Bool.{true, false}
 use mathlib.Core.List.{List, [], _∷_}
+use lib.Dec.{eqb}
 use Rattle.edf.specs.Demand.{TaskSet}
-use Rattle.edf.specs.Arrivals.{Unservable}
 use Rattle.table.specs.Rows.{tasksOf}
 use Rattle.table.specs.Verdict.{answerOf}
+pub use Rattle.table.specs.Theorems.{OverloadDeserved}
 use Rattle.session.specs.declared.Session.{Session}
 use Rattle.session.specs.declared.Outcome.{Outcome}
+use Rattle.session.specs.Reading.{idle, jobAt, waits}
 use Rattle.session.specs.Sound.{sound}
-use Rattle.session.specs.Calls.{shown, arriveOf, chooseOf, advanceOf, finishOf}
+use Rattle.session.specs.Order.{headOf, permits, candidate, candidates}
+use Rattle.session.specs.Choose.{pickOf, spanOf, pickUsed, usedOf}
+use Rattle.session.specs.Calls.{shown, three, arriveOf, chooseOf, advanceOf, finishOf}
 use Rattle.session.specs.Admit.{sessionOf}
 use Rattle.guarantee.specs.Ledger.{Call, arrive, choose, advance, finish, Event, End, none, at, Entry, Ledger, ledgerOf}
 
@@ -26,10 +31,10 @@ unfoldable pub sessionAfter : Session → List Call → Session
 sessionAfter s [] = s
 sessionAfter s (c ∷ l) = sessionAfter (outcomeOf s c .session) l
 
--- the calls with their answers
+-- the calls with their answers in numbers
 unfoldable pub eventsOf : Session → List Call → List Event
 eventsOf s [] = []
-eventsOf s (c ∷ l) = record { call = c; answer = outcomeOf s c .answer } ∷ eventsOf (outcomeOf s c .session) l
+eventsOf s (c ∷ l) = record { call = c; answer = shown (outcomeOf s c .answer) } ∷ eventsOf (outcomeOf s c .session) l
 
 -- a job that is over ended no later than its deadline, arrival + D; any other has its deadline still ahead of the clock
 abbrev pub Timely : TaskSet → ℕ → Entry → Type 0
@@ -61,9 +66,15 @@ NeverFive =
     (l : List ℕ) (t : ℕ) → answerOf l t .number ≡ 0
     → (calls : List Call) (c : Call) → shown (outcomeOf (sessionAfter (sessionOf l t) calls) c .answer) .number ≡ 5 → ⊥
 
--- each table refused as overloaded has allowed arrivals of which every order of work leaves some job not served in time
-abbrev pub OverloadDeserved : Type 0
-OverloadDeserved = (l : List ℕ) (t : ℕ) → answerOf l t .number ≡ 3 → Unservable (tasksOf l)
+-- each table refused as overloaded has allowed arrivals of which every order of work leaves some job not served in time:
+-- `OverloadDeserved`, which stands in crates/table/specs/Theorems.antt and is a name of this file by its `pub use`
+
+-- EVERY CALL ON THE RECORD OF A REFUSED TABLE ANSWERS 5: it uses no word and leaves the record as it was
+abbrev pub AlwaysFive : Type 0
+AlwaysFive =
+    (l : List ℕ) (t : ℕ) → (answerOf l t .number ≡ 0 → ⊥) → (c : Call)
+    → (shown (outcomeOf (sessionOf l t) c .answer) ≡ three 5 0 0)
+    × (outcomeOf (sessionOf l t) c .used ≡ 0) × (outcomeOf (sessionOf l t) c .session ≡ sessionOf l t)
 
 -- EQUAL CALLS GIVE EQUAL SCHEDULES: equal calls, with equal words, on equal sessions have equal outcomes. This holds of
 -- every function; that the code computes this one is the contract of each call.
@@ -75,3 +86,18 @@ abbrev pub DeterministicAfter : Type 0
 DeterministicAfter =
     (s s′ : Session) (calls calls′ : List Call) → s ≡ s′ → calls ≡ calls′
     → (eventsOf s calls ≡ eventsOf s′ calls′) × (sessionAfter s calls ≡ sessionAfter s′ calls′)
+
+-- the head is the only candidate
+pub record HeadOnly (s : Session) : Type 0 where
+  -- a row is a candidate only if it is the head, idle is none, and there is one in all
+  pub row : (i : ℕ) → i < s .count → candidate s i ≡ eqb i (headOf s)
+  pub notIdle : permits s idle ≡ false
+  pub number : candidates s ≡ 1
+  -- so whatever the words are, the head is chosen for its remaining ticks, and no word is used
+  pub pick : (l : List ℕ) → pickOf s l ≡ headOf s
+  pub span : (l : List ℕ) → spanOf s l (pickUsed s l) (pickOf s l) ≡ jobAt s (headOf s) .left
+  pub used : (l : List ℕ) → usedOf s l ≡ 0
+
+-- IN A TIGHT SESSION THE HEAD IS THE ONLY CANDIDATE: in every sound session of kind 2 in which a job waits
+abbrev pub TightHead : Type 0
+TightHead = (s : Session) → sound s ≡ true → s .kind ≡ 2 → (i : ℕ) → i < s .count → waits s i ≡ true → HeadOnly s

@@ -17,7 +17,7 @@ use Rattle.session.specs.declared.Session.{Session}
 use Rattle.session.specs.declared.Answer.{Answer}
 use Rattle.session.specs.Reading.{idle, noJob, jobAt}
 use Rattle.session.specs.Facts.{Running}
-use Rattle.session.specs.Calls.{shown, changed, arrivedJob, overJob, agedJobs}
+use Rattle.session.specs.Calls.{Shown, shown, changed, arrivedJob, overJob, agedJobs}
 use Rattle.session.specs.Admit.{freshOf, sessionOf}
 use Rattle.guarantee.specs.Ledger.{Call, arrive, choose, advance, finish, Entry, Ledger, empty, ran, ended, onLatest, noted, kept}
 use Rattle.guarantee.specs.Statement.{outcomeOf, InTime}
@@ -45,7 +45,7 @@ module _ (l : List ℕ) (g : Ledger) (s : Session) (good : Good l s) (tied : Tie
       dite (ℕ-discrete i k) (λ e. rw (e, getD-set-same (s .jobs) k j noJob (omega (arith, good-places good))) same)
       (λ ne. rw (getD-set-other (s .jobs) k i j noJob ne) (others i ne))
 
-  tied-arrive : (k : ℕ) (a : Answer) → k < s .count → jobAt s k .next ≤ s .clock
+  tied-arrive : (k : ℕ) (a : Shown) → k < s .count → jobAt s k .next ≤ s .clock
       → Tied l (noted (tasksOf l) g (arrive k) a) (changed s (s .clock) (set (s .jobs) k (arrivedJob s k)) 0 0)
   unfolding noted
   tied-arrive k a h e = record {
@@ -59,7 +59,7 @@ module _ (l : List ℕ) (g : Ledger) (s : Session) (good : Good l s) (tied : Tie
         (λ i ne. other (λ q. ne (sym q)) (tied .rows i));
   }
 
-  tied-choose : (w : List ℕ) (a : Answer) (c n : ℕ) → shown a .first ≡ c
+  tied-choose : (w : List ℕ) (a : Shown) (c n : ℕ) → a .first ≡ c
       → Tied l (noted (tasksOf l) g (choose w) a) (changed s (s .clock) (s .jobs) c n)
   unfolding noted
   tied-choose w a c n e = record { clock = tied .clock; chosen = λ force. e; rows = tied .rows }
@@ -76,7 +76,7 @@ module _ (l : List ℕ) (g : Ledger) (s : Session) (good : Good l s) (tied : Tie
     other-row : (i : ℕ) → ¬ (i ≡ s .chosen) → Follows (tasksOf l) i (jobAt s i) (onLatest (g .chosen) f (g .entries))
     other-row i ne = rw (tied .chosen force) (follows-other (tasksOf l) i (s .chosen) f keeps ne (tied .rows i))
 
-  tied-finish : (a : Answer) → 1 ≤ s .span → Running s
+  tied-finish : (a : Shown) → 1 ≤ s .span → Running s
       → Tied l (noted (tasksOf l) g finish a) (changed s (s .clock) (set (s .jobs) (s .chosen) (overJob s (s .chosen))) 0 0)
   unfolding noted
   tied-finish a force r =
@@ -91,7 +91,7 @@ module _ (l : List ℕ) (g : Ledger) (s : Session) (good : Good l s) (tied : Tie
       }
 
   -- n ticks, not more than the span
-  module _ (n : ℕ) (a : Answer) (force : 1 ≤ s .span) (most : n ≤ s .span) where
+  module _ (n : ℕ) (a : Shown) (force : 1 ≤ s .span) (most : n ≤ s .span) where
     -- a row that does not run
     idle-row : (i : ℕ) (es : List Entry) → (i < s .count → ¬ (i ≡ s .chosen))
         → Follows (tasksOf l) i (jobAt s i) es → Follows (tasksOf l) i (agedAt s n i) es
@@ -132,7 +132,7 @@ module _ (l : List ℕ) (g : Ledger) (s : Session) (good : Good l s) (tied : Tie
 -- ---- any call: one that is refused changes neither
 
 module _ (l : List ℕ) (g : Ledger) (s : Session) (good : Good l s) (tied : Tied l g s) where
-  tied-effect : {c : Call} {s′ : Session} {a : Answer} → Effect s c s′ a → Tied l (kept (tasksOf l) g (record { call = c; answer = a })) s′
+  tied-effect : {c : Call} {s′ : Session} {a : Answer} → Effect s c s′ a → Tied l (kept (tasksOf l) g (record { call = c; answer = shown a })) s′
   unfolding kept
   tied-effect (refusal a h) = simp (ne-eqb (shown a .number) 0 (λ z. omega arith)) tied
   tied-effect (arrived k row ready) = tied-arrive l g s good tied k _ row ready
@@ -140,7 +140,7 @@ module _ (l : List ℕ) (g : Ledger) (s : Session) (good : Good l s) (tied : Tie
   tied-effect (advanced n ch high end) = tied-advance l g s good tied n _ (ch .some) high (ch .runs)
   tied-effect (finished ch r) = tied-finish l g s good tied _ (ch .some) r
 
-  pub tied-call : (c : Call) → Tied l (kept (tasksOf l) g (record { call = c; answer = outcomeOf s c .answer })) (outcomeOf s c .session)
+  pub tied-call : (c : Call) → Tied l (kept (tasksOf l) g (record { call = c; answer = shown (outcomeOf s c .answer) })) (outcomeOf s c .session)
   tied-call c = tied-effect (effect-of s (good .sound) c)
 
   -- an entry that has no end has the deadline of a waiting job, which is ahead of the clock
