@@ -25,6 +25,7 @@ use Rattle.session.specs.Sound.{soundRows, soundWaiting, soundJob, runs, afford
 use Rattle.session.specs.Order.{before, isHead, headOf, permits, candidate, candidates, position, rowWith, candidateAt}
 use Rattle.session.specs.Choose.{draw, drawn, pickOf, room, unopposed, lengthDrawn, spanOf, pickUsed, usedOf}
 use Rattle.session.specs.Calls.{Shown, shown, three, arriveIn, chooseIn, agedJob, agedJobs, overBy, overAfter, advanceIn, finishIn, arriveOf, chooseOf, advanceOf, finishOf}
+use Rattle.session.specs.Admit.{wordsTo, freshOf, sessionOf}
 use Rattle.guarantee.specs.Ledger.{Call, arrive, choose, advance, finish}
 use Rattle.guarantee.specs.Statement.{outcomeOf}
 use Rattle.table.specs.Compute.{quietTo, busy-is, not-overloaded, first-over, is-overloaded, answer-over, answer-tight}
@@ -38,6 +39,10 @@ pub data Question : Type 0 where
   busy : List ℕ → Question
   -- the first t of the compared range whose demand exceeds it, and that demand
   exceeded : List ℕ → Question
+  -- the session that admission gives, where a refusal 3 names the given t
+  opened : List ℕ → ℕ → Question
+  -- whether a session is sound
+  soundness : Session → Question
   -- whether each of the first n rows of a session is a candidate, and then whether idle is one
   chosenFrom : Session → ℕ → Question
   -- a call on a session
@@ -49,6 +54,8 @@ pub data Reply : Type 0 where
   values : List ℤ → Reply
   ticks : ℕ → Reply
   tick : ℕ → ℕ → Reply
+  fresh : Session → Reply
+  flag : Bool → Reply
   flags : List Bool → Reply
   -- an answer's number and values, the words used, and the session left
   outcome : Shown → ℕ → Session → Reply
@@ -66,6 +73,8 @@ reply (verdict l t) = answer (answerOf l t .number) (answerOf l t .first) (answe
 reply (budgets l) = values (take (tasksOf l .rows) (valuesOf (tasksOf l)))
 reply (busy l) = ticks (busyLength (tasksOf l))
 reply (exceeded l) = tick (firstOverload (tasksOf l)) (demand (tasksOf l) (firstOverload (tasksOf l)))
+reply (opened l t) = fresh (sessionOf l t)
+reply (soundness s) = flag (sound s)
 reply (chosenFrom s n) = flags (candidatesTo s n)
 reply (called s c) = outcome (shown (outcomeOf s c .answer)) (outcomeOf s c .used) (outcomeOf s c .session)
 
@@ -167,7 +176,9 @@ cases =
     ∷ is (exceeded over) (tick 6 7)
     ∷ is (verdict wrong 0) (answer 2 0 0)
     ∷ is (verdict [] 0) (answer 1 0 0)
+    ∷ is (soundness equal) (flag true)
     ∷ is (chosenFrom equal 3) (flags (true ∷ true ∷ false ∷ false ∷ []))
+    ∷ is (opened listing 0) (fresh s₀)
     ∷ is (called s₀ (arrive 0)) (outcome (three 0 0 10) 0 s₁)
     ∷ is (called s₁ (arrive 1)) (outcome (three 0 1 15) 0 s₂)
     ∷ is (called s₂ (choose (4 ∷ 9 ∷ []))) (outcome (three 0 1 1) 2 s₃)
@@ -223,9 +234,9 @@ All [] = Unit
 All (c ∷ l) = Holds c × All l
 
 pub every-case : All cases
-unfolding cases answerOf opinionOf badLength firstBroken broken rowRule tasksOf loose looseTo allTo budgetOf valuesOf valuesTo foldTo interference demand request sumTo gate jobsBy ceilDiv leastFrom rowsOf waits ahead startBy startBudget soundRows soundWaiting soundJob runs affords soundChoice sound before isHead headOf permits candidate candidates position rowWith candidateAt draw drawn pickOf room unopposed lengthDrawn spanOf pickUsed usedOf arriveIn chooseIn agedJob agedJobs overBy overAfter advanceIn finishIn arriveOf chooseOf advanceOf finishOf
+unfolding cases answerOf opinionOf badLength firstBroken broken rowRule tasksOf loose looseTo allTo budgetOf valuesOf valuesTo foldTo interference demand request sumTo gate jobsBy ceilDiv leastFrom rowsOf waits ahead startBy startBudget soundRows soundWaiting soundJob runs affords soundChoice sound before isHead headOf permits candidate candidates position rowWith candidateAt draw drawn pickOf room unopposed lengthDrawn spanOf pickUsed usedOf arriveIn chooseIn agedJob agedJobs overBy overAfter advanceIn finishIn arriveOf chooseOf advanceOf finishOf wordsTo freshOf sessionOf
 every-case =
     (refl, (refl, (heavy-verdict, (refl, (rw heavy-busy, (long-verdict, (rw long-busy, (refl, (refl, (over-verdict, (over-exceeded, (refl, (refl, listed)))))))))))))
   where
     listed : All (drop 13 cases)
-    listed = (refl, (refl, (refl, (refl, (refl, (refl, (refl, (refl, (refl, (refl, (refl, tt)))))))))))
+    listed = (refl, (refl, (refl, (refl, (refl, (refl, (refl, (refl, (refl, (refl, (refl, (refl, (refl, tt)))))))))))))
