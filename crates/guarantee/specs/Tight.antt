@@ -17,7 +17,7 @@ use Rattle.session.specs.Order.{headOf, permits, candidate, candidates}
 use Rattle.session.specs.First.{none-waits, head-waits, head-least}
 use Rattle.session.specs.Choose.{drawn, pickOf, room, unopposed, lengthDrawn, spanOf, pickUsed, usedOf}
 use Rattle.session.specs.Facts.{Facts, facts-of}
-use Rattle.guarantee.specs.Statement.{HeadOnly, TightHead}
+use Rattle.guarantee.specs.Statement.{TightHead}
 use Rattle.guarantee.specs.KeepsSound.{ahead-waits, ahead-earlier, idle-ahead}
 use Rattle.guarantee.specs.KeepsPick.{permits-at}
 use Rattle.guarantee.specs.Exact.{row-room}

@@ -1,2 +1,4 @@
 pub mod Reply
 pub mod Numbers
+pub mod Forms
+pub mod EveryForm

@@ -1,0 +1,32 @@
+-- The theorems of Forms.antt: the form changes no answer. Assumes nothing.
+use mathlib.Core.Path.{_≡_, refl}
+use mathlib.Core.List.{List, [], _∷_, map}
+use Rattle.session.specs.declared.Session.{Session}
+use Rattle.session.specs.Calls.{shown}
+use Rattle.session.specs.Admit.{sessionOf}
+use Rattle.guarantee.specs.Ledger.{Call}
+use Rattle.guarantee.specs.Statement.{outcomeOf, sessionAfter, eventsOf}
+use Rattle.guarantee.specs.Keeps.{never-five}
+use Rattle.guarantee.specs.Guarantee.{no-job-late}
+use Rattle.host.specs.Reply.{replyOf}
+use Rattle.host.specs.Forms.{Form, byValue, lent, exported, answerIn, eventsIn, NoJobLateAnyForm, NeverFiveAnyForm}
+
+same-answer : (f : Form) (s : Session) (c : Call) → answerIn f s c ≡ shown (outcomeOf s c .answer)
+unfolding replyOf
+same-answer byValue s c = refl
+same-answer lent s c = refl
+same-answer exported s c = refl
+
+abbrev callsOf : List (Form × Call) → List Call
+callsOf l = map (λ (c : Form × Call). c .1) l
+
+same-events : (s : Session) (calls : List (Form × Call)) → eventsIn s calls ≡ eventsOf s (callsOf calls)
+unfolding eventsIn eventsOf
+same-events s [] = refl
+same-events s (c ∷ l) = rw (same-answer (c .0) s (c .1), same-events (outcomeOf s (c .1) .session) l)
+
+pub no-job-late-any-form : NoJobLateAnyForm
+no-job-late-any-form l t e calls = rw (same-events (sessionOf l t) calls) (no-job-late l t e (callsOf calls))
+
+pub never-five-any-form : NeverFiveAnyForm
+never-five-any-form l t e calls f c = rw (same-answer f (sessionAfter (sessionOf l t) calls) c) (never-five l t e calls c)
