@@ -33,7 +33,7 @@ freshOf l kind = record {
   span = 0;
 }
 
--- no session: it has no rows, so that every call on it answers 5
+-- no session: it has no rows, so that every call on it answers 5 (`AlwaysFive` in crates/guarantee/specs/Statement.antt)
 abbrev pub noSession : Session
 noSession = record { clock = 0; kind = 0; count = 0; words = replicate 48 0; jobs = replicate 16 noJob; chosen = 0; span = 0 }
 
