@@ -6,6 +6,11 @@
  * calls mean is in docs/SPECIFICATION.md, section 5. The calls are proved to do
  * what is written there, for every content of the record and every argument.
  *
+ * The host's loop. Advance by the ticks that passed; finish, if the running job
+ * is done and its choice has ticks left; arrive, for each job that came on this
+ * tick; choose, if no choice is in force; run what was chosen, with a timer for
+ * the span.
+ *
  * Ownership. The caller owns the record and the words; the library keeps no
  * pointer, has no global state, allocates nothing and needs no setup. Of the C
  * library it calls memcpy and memset only.
@@ -150,9 +155,10 @@ shuffle_reply shuffle_choose(shuffle_session *session, const uint32_t *words, si
 shuffle_reply shuffle_advance(shuffle_session *session, uint64_t n);
 
 /*
- * The chosen job has finished early, and the choice ends. A job that completes
- * in the very tick in which its span ends has no choice in force, so this
- * answers 9: finish it when it is chosen the next time. Refusals: 5, 9, 11.
+ * The chosen job has finished early, and the choice ends. A job that is done on
+ * the very last tick of its span, before C ticks, has no choice in force, so
+ * this answers 9: finish it as soon as it is chosen again, before any tick
+ * passes. Refusals: 5, 9, 11.
  */
 shuffle_reply shuffle_finish(shuffle_session *session);
 

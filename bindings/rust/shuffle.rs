@@ -198,9 +198,9 @@ impl Session {
         shuffle_advance(self, ticks)
     }
 
-    /// The chosen job has finished early, and the choice ends. A job that completes in the very tick
-    /// in which its span ends has no choice in force, so this answers 9: finish it when it is chosen
-    /// the next time. Refusals: 5, 9, 11.
+    /// The chosen job has finished early, and the choice ends. A job that is done on the very last
+    /// tick of its span, before C ticks, has no choice in force, so this answers 9: finish it as soon
+    /// as it is chosen again, before any tick passes. Refusals: 5, 9, 11.
     pub fn finish(&mut self) -> Reply {
         shuffle_finish(self)
     }

@@ -185,7 +185,15 @@ static void finish(struct plant *p)
     end_job(p, &p->tasks[p->chosen]);
 }
 
-/* A job whose span ended with its work is finished when it is chosen again. */
+/*
+ * One turn of the host's loop: the arrivals of this tick, a choice if none is in
+ * force, and then the ticks up to the next moment at which something happens.
+ *
+ * A job that is done on the very last tick of its span, before C ticks, has no
+ * choice in force any more, so that finish would be refused with 9. For the
+ * library it still waits. It is finished here, before any tick passes, when it
+ * is chosen again: ran is need already.
+ */
 static void step(struct plant *p, uint64_t end)
 {
     arrivals(p);
