@@ -1,5 +1,5 @@
 -- The lines of a text (docs/SPECIFICATION.md §8.2). Assumes nothing.
-use Prim.Native.Nat.{ℕ, _+_, _≤_, _<_}
+use Prim.Native.Nat.{ℕ, _+_, _≤_, _<_, min}
 use mathlib.Core.Path.{_≡_, refl, sym, ap, _∙_}
 use mathlib.Core.List.{List, [], _∷_}
 use mathlib.Core.Logic.{dite}
@@ -9,6 +9,7 @@ use lib.Dec.{eqb}
 use Rattle.bounded.specs.Tests.{both}
 use lib.ListN.{length, take, drop, length-drop}
 use lib.Seq.{drop-drop, drop-length, length-take-le}
+use Rattle.bytes.specs.Bytes.{indexOf}
 use Rattle.decimal.specs.Number.{plain, numberOf}
 use Rattle.lines.specs.declared.read.Call.the-variants.{Arrive, Choose, Advance, Finish}
 use Rattle.lines.specs.declared.read.Line.{Line}
@@ -74,6 +75,7 @@ line-size (c ∷ d ∷ e ∷ l) = omega (arith, size-four (lineOf (c ∷ d ∷ e
 -- r is the line that begins at a place of l, and the place past it
 pub record Took (l : List ℕ) (at : ℕ) (r : Next) : Type 0 where
   pub lines : linesOf (drop at l) ≡ r .line ∷ linesOf (drop (r .at) l)
+  pub past : r .at ≡ min (at + indexOf 10 (drop at l) + 1) (length l)
   pub within : r .at ≤ length l
   pub size : at + leastSize (r .line) ≤ r .at
 
@@ -92,6 +94,9 @@ leftover-some [] h = absurd (omega arith)
 leftover-some (b ∷ l) h = refl
 
 module _ (l rest : List ℕ) (at e : ℕ) (h : at < length l) (i : rest ≡ drop at l) (p : Place 10 rest e) where
+  newline : e ≡ indexOf 10 (drop at l)
+  newline = p .is ∙ ap (indexOf 10) i
+
   pub took-left : length rest ≤ e → Took l at (record { line = Unreadable; at = length l })
   unfolding linesOf
   took-left k = record {
@@ -100,12 +105,13 @@ module _ (l rest : List ℕ) (at e : ℕ) (h : at < length l) (i : rest ≡ drop
         ∙ ap linesIn (parted-whole 10 rest e p k)
         ∙ leftover-some rest (omega (arith, ap length i, length-drop at l))
         ∙ sym (ap (λ (x : List Line). Unreadable ∷ x) (lines-end l));
+    past = omega (arith, newline, ap length i, length-drop at l);
     within = omega arith;
     size = omega arith;
   }
 
-  past : at + (e + 1) ≡ at + e + 1
-  past = omega arith
+  sum-past : at + (e + 1) ≡ at + e + 1
+  sum-past = omega arith
 
   pub took-line : (x : Line) → e < length rest → x ≡ lineOf (take e rest) → Took l at (record { line = x; at = at + e + 1 })
   unfolding linesOf
@@ -114,7 +120,8 @@ module _ (l rest : List ℕ) (at e : ℕ) (h : at < length l) (i : rest ≡ drop
         ap linesOf (sym i)
         ∙ ap linesIn (parted-at 10 rest e p k)
         ∙ lines-cons (take e rest) _ (parted-not-none 10 _)
-        ∙ rw (← g) (ap (λ (z : List ℕ). x ∷ linesOf z) (ap (drop (e + 1)) i ∙ drop-drop (e + 1) at l ∙ ap (λ (n : ℕ). drop n l) past));
+        ∙ rw (← g) (ap (λ (z : List ℕ). x ∷ linesOf z) (ap (drop (e + 1)) i ∙ drop-drop (e + 1) at l ∙ ap (λ (n : ℕ). drop n l) sum-past));
+    past = omega (arith, newline, ap length i, length-drop at l);
     within = omega (arith, ap length i, length-drop at l);
     size = rw g (omega (arith, line-size (take e rest), length-take-le e rest (omega arith)));
   }

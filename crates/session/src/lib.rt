@@ -1,8 +1,10 @@
 // The session: a value that goes in and comes back with each call (docs/SPECIFICATION.md §5).
 
 ghost use mathlib.Core.Path.{_≡_};
+ghost use Prim.Native.Nat.{min};
+ghost use lib.ListN.{length};
 ghost use Rattle.session.specs.Calls.{refused, shown, three, Shows};
-ghost use Rattle.session.specs.Admit.{freshOf, noSession};
+ghost use Rattle.session.specs.Admit.{wordsTo, freshOf, noSession};
 
 pub mod admit;
 pub mod sound;
@@ -101,6 +103,26 @@ pub struct Outcome {
     pub session: Session,
 }
 
+// The numbers of a table in the places of a session.
+fn copied(words: &[u32]) -> [u32; 48]
+    ensures { λ r. ⌜ r ≡ wordsTo (now (words .entry)) (min (length (now (words .entry))) 48) ⌝ }
+{
+    let n = least(words.len());
+    let mut copy = [0u32; 48];
+    let mut i: usize = 0;
+    while i < n {
+        copy[i] = words[i];
+        i = i + 1;
+    }
+    copy
+}
+
+fn least(n: usize) -> usize
+    ensures { λ r. ⌜ r ≡ min n 48 ⌝ }
+{
+    if n < 48 { n } else { 48 }
+}
+
 impl Session {
     pub const IDLE: u64 = 16;
 
@@ -115,7 +137,7 @@ impl Session {
         ensures { λ r. ⌜ r ≡ freshOf (now (words .entry)) kind ⌝ }
     {
         let count = (words.len() / 3) as u64;
-        let copy = admit::copied(words);
+        let copy = copied(words);
         Self {
             clock: 0,
             kind,
@@ -133,7 +155,7 @@ impl Session {
     }
 
     // No session: with no rows, every call on it answers 5.
-    pub fn none() -> Self
+    fn none() -> Self
         ensures { λ r. ⌜ r ≡ noSession ⌝ }
     {
         Self {

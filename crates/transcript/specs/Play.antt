@@ -55,6 +55,7 @@ pub record Unread (clock : ℕ) (p r : Play) (before after : List ℕ) : Type 0 
   pub wrote : Wrote 86 (lineText clock 63 13 (p .line) 0) before after (p .end) (r .end)
   pub from : r .from ≡ p .from
   pub to : r .to ≡ p .to
+  pub line : r .line ≡ p .line
   pub over : r .over ≡ true
 
 -- the session s and r are what the step x, of a line that queues k words, leads to from p, with the words v in place of w

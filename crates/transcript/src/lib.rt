@@ -7,13 +7,13 @@ ghost use Rattle.transcript.specs.Transcript.{inputLimit, roomFor, Print
 ghost use Rattle.transcript.specs.Plays.{roomOf};
 use step::Play;
 
-pub mod admission;
-pub mod play;
-pub mod rows;
-pub mod step;
+mod admission;
+mod play;
+mod rows;
+mod step;
 
 // How many bytes of the input are read.
-pub const INPUT: usize = 65536;
+const INPUT: usize = 65536;
 
 // A buffer of this length holds every output.
 pub const LONGEST: usize = 1443356;

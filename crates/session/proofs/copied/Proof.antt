@@ -1,10 +1,10 @@
--- `session::admit::copied` meets its contract. Assumes nothing.
+-- `session::copied` meets its contract. Assumes nothing.
 use Prim.Native.Nat.{_≤_, _-_}
 use mathlib.Core.Path.{_≡_}
 use borrow.Author.Needs.{needs}
 use Rattle.session.specs.Admit.{wordsTo, words-laws}
-use Rattle.session.proofs.admit.copied.Statement.{statement}
-use Rattle.session.proofs.admit.copied.Tie as tie
+use Rattle.session.proofs.copied.Statement.{statement}
+use Rattle.session.proofs.copied.Tie as tie
 
 abbrev Inv-loop : tie.InvT-loop
 Inv-loop words n copy₀ i₀ copy i = (i ≤ n) × (copy ≡ wordsTo words i)
