@@ -1,11 +1,8 @@
 // The calls on a session record that the host lends (docs/SPECIFICATION.md §5.8). Each hands the record to the call by
 // value and writes back the session that it leaves, so that a refused call writes back the same value.
 ghost use mathlib.Core.Path.{_≡_};
-ghost use mathlib.Core.Bool.{true};
 ghost use Rattle.table.specs.Assess.{Assessed, shownOf};
 ghost use Rattle.session.specs.Admit.{sessionOf};
-ghost use Rattle.session.specs.Sound.{sound};
-ghost use Rattle.session.specs.Calls.{arriveIn, chooseIn, advanceIn, finishIn};
 ghost use Rattle.session.specs.Calls.{arriveOf, chooseOf, advanceOf, finishOf};
 ghost use Rattle.lent.specs.Reply.{replyOf};
 use session::Answer;
@@ -76,44 +73,4 @@ pub fn admit(s: &mut Session, words: &[u32]) -> Assessment
     let a = session::admit::admit(words);
     *s = a.session;
     verdict(a)
-}
-
-// `arrive` without its check, for callers who can prove that the record is sound.
-pub fn arrive_sound(s: &mut Session, row: u64) -> Reply
-    requires { ⌜ sound (now s) ≡ true ⌝ }
-    ensures { λ r. ⌜ (r ≡ replyOf (arriveIn (now (s .entry)) row)) × (now (s .exit) ≡ arriveIn (now (s .entry)) row .session) ⌝ }
-{
-    let o = calls::arrive::arrive_sound(*s, row);
-    *s = o.session;
-    seen(o)
-}
-
-// `choose` without its check, for callers who can prove that the record is sound.
-pub fn choose_sound(s: &mut Session, words: &[u32]) -> Reply
-    requires { ⌜ sound (now s) ≡ true ⌝ }
-    ensures { λ r. ⌜ (r ≡ replyOf (chooseIn (now (s .entry)) (now (words .entry)))) × (now (s .exit) ≡ chooseIn (now (s .entry)) (now (words .entry)) .session) ⌝ }
-{
-    let o = choice::choose_sound(*s, words);
-    *s = o.session;
-    seen(o)
-}
-
-// `advance` without its check, for callers who can prove that the record is sound.
-pub fn advance_sound(s: &mut Session, n: u64) -> Reply
-    requires { ⌜ sound (now s) ≡ true ⌝ }
-    ensures { λ r. ⌜ (r ≡ replyOf (advanceIn (now (s .entry)) n)) × (now (s .exit) ≡ advanceIn (now (s .entry)) n .session) ⌝ }
-{
-    let o = calls::advance::advance_sound(*s, n);
-    *s = o.session;
-    seen(o)
-}
-
-// `finish` without its check, for callers who can prove that the record is sound.
-pub fn finish_sound(s: &mut Session) -> Reply
-    requires { ⌜ sound (now s) ≡ true ⌝ }
-    ensures { λ r. ⌜ (r ≡ replyOf (finishIn (now (s .entry)))) × (now (s .exit) ≡ finishIn (now (s .entry)) .session) ⌝ }
-{
-    let o = calls::finish::finish_sound(*s);
-    *s = o.session;
-    seen(o)
 }
