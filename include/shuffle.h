@@ -18,6 +18,9 @@
  * Stack. No call takes more than 8,192 bytes of it, memcpy and memset not
  * counted.
  *
+ * Time. Each call checks the record first. What that takes depends on the table
+ * alone (docs/PERFORMANCE.md): time shuffle_is_sound on its fresh session once.
+ *
  * Threads. Calls on different records may run at the same time. A record must
  * not be used by two calls at a time.
  *

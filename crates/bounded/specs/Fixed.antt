@@ -1,7 +1,9 @@
 -- The least fixed point, from 1 up, of a function that never falls, and how a loop reaches it. Assumes nothing.
-use Prim.Native.Nat.{ℕ, _+_, _≤_, _<_}
+use Prim.Native.Nat.{ℕ, zero, suc, _+_, _≤_, _<_}
 use mathlib.Core.Path.{_≡_}
+use mathlib.Core.Logic.{dite}
 use native.Mathlib.Omega.{arith}
+use native.Mathlib.Decide.{decLe, ℕ-discrete}
 use lib.Dec.{eqb}
 use borrow.Author.Tests.{eq-eqb, ne-eqb, eqb-true, eqb-false}
 use Rattle.bounded.specs.Least.{leastFrom, least-low, least-at, least-before, least-found, least-none}
@@ -56,3 +58,14 @@ pub climb-past : (f : ℕ → ℕ) (cap r x : ℕ) → Climbing f cap r → ((q 
 unfolding leastFixed
 climb-past f cap r x c under h =
     least-none (λ r. eqb (f r) r) 1 cap (λ j l k. ne-eqb (f j) j (λ y. omega (arith, under j (c .under j l y) y)))
+
+-- where f never falls, a number that f does not raise is not below the least fixed point
+module _ (f : ℕ → ℕ) (cap : ℕ) (mono : (x y : ℕ) → x ≤ y → f x ≤ f y) (some : 1 ≤ f 1) where
+  above : (n x : ℕ) → x ≤ n → 1 ≤ x → f x ≤ x → x < leastFixed f cap → ⊥
+  above zero x h l k b = omega arith
+  above (suc n) x h l k b =
+      dite (ℕ-discrete (f x) x) (λ e. fixed-before f cap x l b e)
+      (λ ne. above n (f x) (omega arith) (omega (arith, mono 1 x l)) (mono (f x) x k) (omega arith))
+
+  pub fixed-under : (x : ℕ) → 1 ≤ x → f x ≤ x → leastFixed f cap ≤ x
+  fixed-under x l k = dite (decLe (leastFixed f cap) x) (λ p. p) (λ p. absurd (above x x (omega arith) l k (omega arith)))

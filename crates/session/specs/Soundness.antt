@@ -13,13 +13,12 @@ use Rattle.bounded.specs.All.{allTo}
 use Rattle.bounded.specs.Signed.{negative}
 use Rattle.edf.specs.Demand.{TaskSet}
 use Rattle.table.specs.declared.rows.Task.{Task}
-use Rattle.table.specs.declared.Numbers.{Numbers}
-use Rattle.table.specs.declared.Assessment.{Assessment}
+use Rattle.table.specs.declared.kind.Kind.{Kind}
 use Rattle.table.specs.Rows.{horizon, tasksOf, FitRow, Fit}
 use Rattle.table.specs.Budgets.{valuesOf, values-at}
-use Rattle.table.specs.Verdict.{Answer, answerOf}
-use Rattle.table.specs.Assess.{shownOf, Shows, shows-of, Assessed}
-use Rattle.table.specs.Theorems.{answer-fit, answer-number, answer-admitted}
+use Rattle.table.specs.Verdict.{answerOf, kindOf}
+use Rattle.table.specs.Kind.{Kinded, kind-none, kind-some}
+use Rattle.table.specs.Theorems.{answer-fit, answer-admitted}
 use Rattle.session.specs.declared.Job.{Job}
 use Rattle.session.specs.declared.Session.{Session}
 use Rattle.session.specs.Reading.{idle, clockEnd, jobAt, rowsOf, tasks, waits, natural, startBy, startBudget}
@@ -252,41 +251,42 @@ pub sound-many : (s : Session) → 16 < s .count → false ≡ sound s
 unfolding sound soundRows
 sound-many s h = simp (lt-leb (s .count) 16 h)
 
-module _ (s : Session) (few : s .count ≤ 16) (a : Assessment) (n : Numbers) (h : Assessed (rowsOf s) a) (g : Shows (a .verdict) n) where
-  answer-is : record { number = n .number; first = n .first; second = n .second; budgets = a .budgets } ≡ answerOf (rowsOf s) (shownOf a .first)
-  answer-is = sym (shows-of a n g) ∙ h .answer
+module _ (s : Session) (few : s .count ≤ 16) (k : Kind) (h : Kinded (rowsOf s) k) where
+  kind-is : k .number ≡ kindOf (rowsOf s)
+  unfolding kindOf
+  kind-is = h .number
 
-  number-is : answerOf (rowsOf s) 0 .number ≡ n .number
-  number-is = answer-number (rowsOf s) 0 (shownOf a .first) ∙ sym (ap (λ (z : Answer). z .number) answer-is)
-
-  pub sound-refused : (n .number ≡ 0 → ⊥) → false ≡ sound s
+  pub sound-refused : k .number ≡ 0 → false ≡ sound s
   unfolding sound soundRows
-  sound-refused ne = simp (le-leb (s .count) 16 few, ne-eqb (answerOf (rowsOf s) 0 .number) 0 (λ e. ne (sym number-is ∙ e)))
+  sound-refused z =
+      simp (
+        le-leb (s .count) 16 few,
+        ne-eqb (answerOf (rowsOf s) 0 .number) 0 (kind-none (rowsOf s) (sym kind-is ∙ z)),
+      )
 
-  module _ (z : n .number ≡ 0) where
-    admitted-is : answerOf (rowsOf s) 0 ≡ answerOf (rowsOf s) (shownOf a .first)
-    admitted-is = answer-admitted (rowsOf s) 0 (shownOf a .first) (number-is ∙ z) .0
+  module _ (ne : k .number ≡ 0 → ⊥) where
+    answer-is : (answerOf (rowsOf s) 0 .number ≡ 0) × (answerOf (rowsOf s) 0 .first ≡ k .number)
+    answer-is =
+        let a = kind-some (rowsOf s) (λ z. ne (kind-is ∙ z)) in
+        (a .0, a .1 ∙ sym kind-is)
 
-    first-is : answerOf (rowsOf s) 0 .first ≡ n .first
-    first-is = ap (λ (z : Answer). z .first) (admitted-is ∙ sym answer-is)
-
-    pub sound-kind : (n .first ≡ s .kind → ⊥) → false ≡ sound s
+    pub sound-kind : (k .number ≡ s .kind → ⊥) → false ≡ sound s
     unfolding sound soundRows
-    sound-kind ne =
+    sound-kind other =
         simp (
           le-leb (s .count) 16 few,
-          eq-eqb (answerOf (rowsOf s) 0 .number) 0 (number-is ∙ z),
-          ne-eqb (answerOf (rowsOf s) 0 .first) (s .kind) (λ e. ne (sym first-is ∙ e)),
+          eq-eqb (answerOf (rowsOf s) 0 .number) 0 (answer-is .0),
+          ne-eqb (answerOf (rowsOf s) 0 .first) (s .kind) (λ e. other (sym (answer-is .1) ∙ e)),
         )
 
-    module _ (k : n .first ≡ s .kind) where
+    module _ (same : k .number ≡ s .kind) where
       rows-sound : soundRows s ≡ true
       unfolding soundRows
       rows-sound =
           simp (
             le-leb (s .count) 16 few,
-            eq-eqb (answerOf (rowsOf s) 0 .number) 0 (number-is ∙ z),
-            eq-eqb (answerOf (rowsOf s) 0 .first) (s .kind) (first-is ∙ k),
+            eq-eqb (answerOf (rowsOf s) 0 .number) 0 (answer-is .0),
+            eq-eqb (answerOf (rowsOf s) 0 .first) (s .kind) (answer-is .1 ∙ same),
           )
 
       pub sound-clock : clockEnd < s .clock → false ≡ sound s
@@ -294,14 +294,14 @@ module _ (s : Session) (few : s .count ≤ 16) (a : Assessment) (n : Numbers) (h
       sound-clock c = simp (rows-sound, lt-leb (s .clock) clockEnd c)
 
       module _ (c : s .clock ≤ clockEnd) where
-        pub sound-valued : length (s .words) ≡ 48 → Valued s (a .budgets)
+        pub sound-valued : length (s .words) ≡ 48 → Valued s (k .budgets)
         sound-valued p = record {
           few = few;
           places = p;
           clock = c;
           rows = rows-count s few p;
-          fit = answer-fit (rowsOf s) 0 (number-is ∙ z);
-          values = ap (λ (z : Answer). z .budgets) (answer-is ∙ sym admitted-is) ∙ answer-admitted (rowsOf s) 0 0 (number-is ∙ z) .1;
+          fit = answer-fit (rowsOf s) 0 (answer-is .0);
+          values = h .budgets ∙ answer-admitted (rowsOf s) 0 0 (answer-is .0) .1;
         }
 
         pub sound-jobs : (b : Bool) → b ≡ allTo (soundJob s) (s .count) → b ≡ false → false ≡ sound s

@@ -164,19 +164,17 @@ pub fn is_sound(s: Session) -> bool
     }
     let words = s.words;
     let e = 3 * (count as usize);
-    let a = table::assess(&words[..e]);
-    let verdict = a.verdict;
-    let n = table::shown(verdict);
-    if n.number != 0 {
+    let k = table::kind::kind_of(&words[..e]);
+    if k.number == 0 {
         return false;
     }
-    if n.first != s.kind {
+    if k.number != s.kind {
         return false;
     }
     if Session::CLOCK_END < s.clock {
         return false;
     }
-    let values = a.budgets;
+    let values = k.budgets;
     if jobs_sound(s, values) {
         return choice_sound(s);
     }

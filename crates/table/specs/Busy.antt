@@ -35,7 +35,7 @@ module _ (τ : TaskSet) (fit : Fit τ) where
   module _ (r n x : ℕ) (t : Turn τ r n) (w : Within 16000000000000 (request τ r) x) where
     far : (y : ℕ) → Further τ r x y → (q : ℕ) → r ≤ q → request τ q ≡ q → y ≤ q
     far y g q l e =
-        ⊎-elim (λ z. omega (arith, w .is, request-mono τ (fit-lawful τ fit) r q l)) (λ (b : Leap τ r y). b .under q l e) (g .leap)
+        ⊎-elim (λ z. omega (arith, w .is, request-mono τ (fit-lawful τ fit) r q l)) (λ (b : Leap τ r y). b .under q l (omega (arith, e))) (g .leap)
 
     rises : (y : ℕ) → Further τ r x y → r ≤ y → y ≤ horizon → y ≤ request τ y
     rises y g l h =

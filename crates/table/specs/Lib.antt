@@ -1,5 +1,6 @@
 pub mod Rows
 pub mod Bound
+pub mod Inverse
 pub mod Request
 pub mod Demand
 pub mod Budgets
@@ -10,4 +11,6 @@ pub mod Overload
 pub mod Verdict
 pub mod Assess
 pub mod Theorems
+pub mod Settle
+pub mod Kind
 pub mod Compute

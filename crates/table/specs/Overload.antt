@@ -1,9 +1,9 @@
 -- The search for a tick whose demand exceeds it (docs/SPECIFICATION.md §3.1). Assumes nothing.
-use Prim.Native.Nat.{ℕ, _+_, _-_, _≤_, _<_, min}
+use Prim.Native.Nat.{ℕ, _+_, _≤_, _<_}
 use mathlib.Core.Path.{_≡_}
 use mathlib.Core.Logic.{dite}
 use native.Mathlib.Omega.{arith}
-use native.Mathlib.Decide.{decLe}
+use native.Mathlib.Decide.{decLe, decLt}
 use Rattle.edf.specs.Demand.{TaskSet, demand, quick-search}
 use Rattle.table.specs.declared.overload.Found.{Found}
 use Rattle.table.specs.Rows.{Fit, fit-lawful}
@@ -35,14 +35,14 @@ module _ (τ : TaskSet) (fit : Fit τ) (end t n h : ℕ) (c : Clear τ end t n) 
     low = omega (arith, c .low, g .less);
     counted = omega (arith, c .counted, g .less);
     clear = λ x p q. dite (decLe x t)
-        (λ m. dite (decLe x (min h (t - 1)))
+        (λ m. dite (decLt x h)
         (λ o. g .clear x p o)
         (λ o. quick-search τ (fit-lawful τ fit) t x (omega (arith, w .is)) m))
         (λ m. c .clear x (omega arith) q);
   }
 
-  pub clear-falls : (u : ℕ) → 0 < t → Lower τ t h u → u < t
-  clear-falls u l g = omega (arith, g .less)
+  pub clear-falls : (u : ℕ) → 0 < t → h ≤ t → Lower τ t h u → u < t
+  clear-falls u l k g = omega (arith, g .less)
 
   pub clear-over : 0 < t → t < h → Searched τ end (record { at = t; demand = h; sums = n + 1 })
   clear-over l k = record { outcome = over l (c .low) (w .is) k; counted = omega (arith, c .counted) }

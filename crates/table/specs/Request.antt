@@ -6,11 +6,12 @@ use mir.Syntax.{w64}
 use mir.Val.{Fits}
 use Rattle.bounded.specs.Quotient.{ceilDiv, ceil-small}
 use Rattle.edf.specs.Demand.{TaskSet, rowRequest}
-use Rattle.table.specs.declared.rows.Task.{Task}
-use Rattle.table.specs.Rows.{horizon, FitRow}
+use Rattle.table.specs.declared.inverse.Prepared.{Prepared}
+use Rattle.table.specs.Rows.{horizon}
 use Rattle.table.specs.Bound.{Within, product-small, product-fits}
+use Rattle.table.specs.Inverse.{Ready}
 
-module _ (τ : TaskSet) (i x q : ℕ) (k : Task) (f : FitRow τ i k) (h : x ≤ horizon) (e : q ≡ ceilDiv x (k .period)) where
+module _ (τ : TaskSet) (i x q : ℕ) (k : Prepared) (f : Ready τ i k) (h : x ≤ horizon) (e : q ≡ ceilDiv x (k .period)) where
   quotient-small : q ≤ 1000000
   quotient-small = let r = f .row in let u = f .rule in omega (arith, ceil-small x (k .period) (omega arith))
 
@@ -19,7 +20,7 @@ module _ (τ : TaskSet) (i x q : ℕ) (k : Task) (f : FitRow τ i k) (h : x ≤ 
 
   pub request-within : Within 1000000000000 (rowRequest τ x i) (k .run * q)
   request-within = let r = f .row in let u = f .rule in record {
-    is = rw (e, r .run, r .period);
+    is = rw (e, f .row .run, f .row .period);
     small = product-small (k .run) q (omega arith) quotient-small;
   }
 

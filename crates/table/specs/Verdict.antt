@@ -58,6 +58,10 @@ answerOf l t =
     cond (badLength (length l)) (refusal 1 (length l) 0)
     (cond (ltb (firstBroken (tasksOf l)) (tasksOf l .rows)) (refusal 2 (firstBroken (tasksOf l)) 0) (opinionOf (tasksOf l) t))
 
+-- the kind that a slice is admitted as, 1 loose and 2 tight; 0 where it is refused
+unfoldable pub kindOf : List ℕ → ℕ
+kindOf l = cond (eqb (answerOf l 0 .number) 0) (answerOf l 0 .first) 0
+
 -- what is asked of the t that a refusal 3 names: it lies in the compared range, and its demand is above it
 pub record Exceeded (τ : TaskSet) (t : ℕ) : Type 0 where
   pub low : 1 ≤ t

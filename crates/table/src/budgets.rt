@@ -6,7 +6,9 @@ ghost use Rattle.bounded.specs.Signed.{difference, negative};
 ghost use Rattle.edf.specs.Demand.{interference};
 ghost use Rattle.table.specs.Rows.{tasksOf, Fit};
 ghost use Rattle.table.specs.Bound.{Within};
+ghost use Rattle.table.specs.Inverse.{Inverses};
 ghost use Rattle.table.specs.Budgets.{chargeOf, budgetOf, putOf, budgetsOf};
+use super::inverse::inverses_of;
 use super::request::row_request;
 use super::rows::count;
 use super::rows::fit_row;
@@ -18,26 +20,26 @@ pub struct Budgets {
 }
 
 // What row j can take of row i in a stretch x: nothing where it is row i itself.
-fn charge(words: &[u32], i: usize, j: usize, x: u64) -> u64
-    requires { ⌜ Fit (tasksOf (now words)) × (j < tasksOf (now words) .rows) × (x ≤ 1000000) ⌝ }
+fn charge(words: &[u32], inverses: &[u64; 16], i: usize, j: usize, x: u64) -> u64
+    requires { ⌜ Fit (tasksOf (now words)) × Inverses (tasksOf (now words)) (now inverses) × (j < tasksOf (now words) .rows) × (x ≤ 1000000) ⌝ }
     ensures { λ r. ⌜ Within 1000000000000 (chargeOf (tasksOf (now (words .entry))) i x j) r ⌝ }
 {
     if j == i {
         return 0;
     }
-    row_request(words, j, x)
+    row_request(words, inverses, j, x)
 }
 
 // The sum over every other row j of C of j times (x divided by T of j, rounded up).
-fn interfering(words: &[u32], i: usize, x: u64) -> u64
-    requires { ⌜ Fit (tasksOf (now words)) × (x ≤ 1000000) ⌝ }
+fn interfering(words: &[u32], inverses: &[u64; 16], i: usize, x: u64) -> u64
+    requires { ⌜ Fit (tasksOf (now words)) × Inverses (tasksOf (now words)) (now inverses) × (x ≤ 1000000) ⌝ }
     ensures { λ r. ⌜ Within 16000000000000 (interference (tasksOf (now (words .entry))) i x) r ⌝ }
 {
     let n = count(words);
     let mut sum: u64 = 0;
     let mut j: usize = 0;
     while j < n {
-        sum = sum + charge(words, i, j, x);
+        sum = sum + charge(words, inverses, i, j, x);
         j = j + 1;
     }
     sum
@@ -68,14 +70,23 @@ pub fn magnitude(v: i64) -> u64
     v as u64
 }
 
-// V of row i: D, less C, less what the others can take until the deadline. Internal: `assess` tests the rows first.
+// V of row i: D, less C, less what the others can take until the deadline.
+fn value_of(words: &[u32], inverses: &[u64; 16], i: usize) -> i64
+    requires { ⌜ Fit (tasksOf (now words)) × Inverses (tasksOf (now words)) (now inverses) × (i < tasksOf (now words) .rows) ⌝ }
+    ensures { λ r. ⌜ r ≡ budgetOf (tasksOf (now (words .entry))) i ⌝ }
+{
+    let k = fit_row(words, i);
+    let sum = interfering(words, inverses, i, k.deadline);
+    minus(k.deadline, k.run, sum)
+}
+
+// The same of one row alone. Internal: its callers have a sound session.
 pub fn budget(words: &[u32], i: usize) -> i64
     requires { ⌜ Fit (tasksOf (now words)) × (i < tasksOf (now words) .rows) ⌝ }
     ensures { λ r. ⌜ r ≡ budgetOf (tasksOf (now (words .entry))) i ⌝ }
 {
-    let k = fit_row(words, i);
-    let sum = interfering(words, i, k.deadline);
-    minus(k.deadline, k.run, sum)
+    let inverses = inverses_of(words);
+    value_of(words, &inverses, i)
 }
 
 fn put(b: Budgets, i: usize, v: i64) -> Budgets
@@ -91,8 +102,8 @@ fn put(b: Budgets, i: usize, v: i64) -> Budgets
 }
 
 // V of every row. Internal: `assess` tests the rows first, which keeps each sum from wrapping.
-pub fn all_budgets(words: &[u32]) -> Budgets
-    requires { ⌜ Fit (tasksOf (now words)) ⌝ }
+pub fn all_budgets(words: &[u32], inverses: &[u64; 16]) -> Budgets
+    requires { ⌜ Fit (tasksOf (now words)) × Inverses (tasksOf (now words)) (now inverses) ⌝ }
     ensures { λ r. ⌜ r ≡ budgetsOf (tasksOf (now (words .entry))) ⌝ }
 {
     let n = count(words);
@@ -102,7 +113,7 @@ pub fn all_budgets(words: &[u32]) -> Budgets
     };
     let mut i: usize = 0;
     while i < n {
-        let v = budget(words, i);
+        let v = value_of(words, inverses, i);
         b = put(b, i, v);
         i = i + 1;
     }

@@ -1,6 +1,7 @@
 // The busy length (the synchronous busy period; docs/SPECIFICATION.md §2.4).
 ghost use Prim.Native.Nat.{_<_};
 ghost use Rattle.table.specs.Rows.{tasksOf, Fit};
+ghost use Rattle.table.specs.Inverse.{Inverses};
 ghost use Rattle.table.specs.Busy.{Settled};
 use super::leap::further;
 use super::request::requested;
@@ -13,19 +14,19 @@ pub struct Busy {
 
 // The least r ≥ 1 that equals the sum over all rows of C times (r divided by T, rounded up). Internal: `assess` tests the
 // rows first.
-pub fn busy_length(words: &[u32]) -> Busy
-    requires { ⌜ Fit (tasksOf (now words)) ⌝ }
+pub fn busy_length(words: &[u32], inverses: &[u64; 16]) -> Busy
+    requires { ⌜ Fit (tasksOf (now words)) × Inverses (tasksOf (now words)) (now inverses) ⌝ }
     ensures { λ r. ⌜ Settled (tasksOf (now (words .entry))) r ⌝ }
 {
     let mut r: u64 = 1;
     let mut sums: u64 = 0;
     let length = loop {
-        let next = requested(words, r);
+        let next = requested(words, inverses, r);
         sums = sums + 1;
         if next == r {
             break r;
         }
-        let far = further(words, r, next, sums);
+        let far = further(words, inverses, r, next, sums);
         if 1000000 < far {
             break 1000001;
         }

@@ -1,87 +1,93 @@
 // An upper bound on every exceeded tick up to t, from the rows' utilisation (docs/SPECIFICATION.md §3.1): where the search
 // would take many short steps, it goes on below it.
 ghost use mathlib.Core.Path.{_≡_};
-ghost use Prim.Native.Nat.{_-_, _<_, _≤_, min};
+ghost use Prim.Native.Nat.{_+_, _-_, _*_, _≤_};
+ghost use lib.Dec.{ltb};
+ghost use Rattle.edf.specs.Jobs.{jobsBy};
 ghost use Rattle.table.specs.Rows.{tasksOf, Fit};
 ghost use Rattle.table.specs.Bound.{Within};
-ghost use Rattle.table.specs.Drop.{riseOf, leadOf, heldOf, rises, leads, held, dropBy, Drop, Lower};
-use super::demand::row_demand;
+ghost use Rattle.table.specs.Inverse.{Inverses, Tame};
+ghost use Rattle.table.specs.Drop.{riseBy, LightHolding, holdingBy, Held, dropBy, Drop, Lower};
+use super::demand::jobs_by;
+use super::inverse::Prepared;
+use super::inverse::prepare;
 use super::rows::count;
-use super::rows::fit_row;
 
-// Row i's share of time, in parts of 2 to the 32nd and rounded up, where its period is below k.
-fn rise(words: &[u32], i: usize, k: u64) -> u64
-    requires { ⌜ Fit (tasksOf (now words)) × (i < tasksOf (now words) .rows) ⌝ }
-    ensures { λ r. ⌜ Within 4294967297 (riseOf (tasksOf (now (words .entry))) k i) r ⌝ }
-{
-    let j = fit_row(words, i);
-    if j.period < k {
-        return 4294967296 * j.run / j.period + 1;
-    }
-    0
+// Rows with a deadline after some tick, counted by their shares of time, in parts of 2 to the 32nd and rounded up, and by
+// what they are ahead by, since their deadlines come before their periods' ends; and what is due of the others.
+struct Holding {
+    rises: u64,
+    leads: u64,
+    held: u64,
 }
 
-fn rises_of(words: &[u32], k: u64) -> u64
-    requires { ⌜ Fit (tasksOf (now words)) ⌝ }
-    ensures { λ r. ⌜ Within 68719476752 (rises (tasksOf (now (words .entry))) k) r ⌝ }
+// Whether a job of the row k falls due after b, up to t: the last one's deadline is (jobs by t) × T − (T − D).
+fn due(k: Prepared, t: u64, b: u64) -> bool
+    requires { ⌜ Tame k × (t ≤ 1000000) × (b ≤ 1000000) ⌝ }
+    ensures { λ r. ⌜ r ≡ ltb (b + (k .period - k .deadline)) (k .period * jobsBy (k .deadline) (k .period) t) ⌝ }
+{
+    b + (k.period - k.deadline) < k.period * jobs_by(k.deadline, k.period, k.inverse, t)
+}
+
+fn rise(k: Prepared) -> u64
+    requires { ⌜ Tame k ⌝ }
+    ensures { λ r. ⌜ Within 4294968400 (riseBy (k .run) (k .period)) r ⌝ }
+{
+    k.run * k.inverse / 1024 + 1
+}
+
+// What the share v brings between the row's deadline and its period's end.
+fn lead(k: Prepared, v: u64) -> u64
+    requires { ⌜ Tame k × (v ≤ 4294968400) ⌝ }
+    ensures { λ r. ⌜ Within 5000000000000000 (v * (k .period - k .deadline)) r ⌝ }
+{
+    v * (k.period - k.deadline)
+}
+
+fn owe(k: Prepared, t: u64) -> u64
+    requires { ⌜ Tame k × (t ≤ 1000000) ⌝ }
+    ensures { λ r. ⌜ Within 1000000000000 (k .run * jobsBy (k .deadline) (k .period) t) r ⌝ }
+{
+    k.run * jobs_by(k.deadline, k.period, k.inverse, t)
+}
+
+// h with one row more, at t: by its share if it has a deadline after b.
+fn with_row(h: Holding, k: Prepared, t: u64, b: u64) -> Holding
+    requires { ⌜ LightHolding h × Tame k × (t ≤ 1000000) × (b ≤ 1000000) ⌝ }
+    ensures { λ r. ⌜ r ≡ holdingBy h k t b ⌝ }
+{
+    if due(k, t, b) {
+        let v = rise(k);
+        return Holding {
+            rises: h.rises + v,
+            leads: h.leads + lead(k, v),
+            held: h.held,
+        };
+    }
+    Holding {
+        rises: h.rises,
+        leads: h.leads,
+        held: h.held + owe(k, t),
+    }
+}
+
+fn hold(words: &[u32], inverses: &[u64; 16], t: u64, b: u64) -> Holding
+    requires { ⌜ Fit (tasksOf (now words)) × Inverses (tasksOf (now words)) (now inverses) × (t ≤ 1000000) × (b ≤ 1000000) ⌝ }
+    ensures { λ r. ⌜ Held (tasksOf (now (words .entry))) t b (tasksOf (now (words .entry)) .rows) r ⌝ }
 {
     let n = count(words);
-    let mut sum: u64 = 0;
+    let mut h = Holding {
+        rises: 0,
+        leads: 0,
+        held: 0,
+    };
     let mut i: usize = 0;
     while i < n {
-        sum = sum + rise(words, i, k);
+        let k = prepare(words, inverses, i);
+        h = with_row(h, k, t, b);
         i = i + 1;
     }
-    sum
-}
-
-// That share of the time between row i's deadline and its period's end.
-fn lead(words: &[u32], i: usize, k: u64) -> u64
-    requires { ⌜ Fit (tasksOf (now words)) × (i < tasksOf (now words) .rows) ⌝ }
-    ensures { λ r. ⌜ Within 5000000000000000 (leadOf (tasksOf (now (words .entry))) k i) r ⌝ }
-{
-    let j = fit_row(words, i);
-    rise(words, i, k) * (j.period - j.deadline)
-}
-
-fn leads_of(words: &[u32], k: u64) -> u64
-    requires { ⌜ Fit (tasksOf (now words)) ⌝ }
-    ensures { λ r. ⌜ Within 80000000000000000 (leads (tasksOf (now (words .entry))) k) r ⌝ }
-{
-    let n = count(words);
-    let mut sum: u64 = 0;
-    let mut i: usize = 0;
-    while i < n {
-        sum = sum + lead(words, i, k);
-        i = i + 1;
-    }
-    sum
-}
-
-// What is due by t of row i, where its period is not below k.
-fn hold(words: &[u32], t: u64, i: usize, k: u64) -> u64
-    requires { ⌜ Fit (tasksOf (now words)) × (i < tasksOf (now words) .rows) × (t ≤ 1000000) ⌝ }
-    ensures { λ r. ⌜ Within 1000000000000 (heldOf (tasksOf (now (words .entry))) t k i) r ⌝ }
-{
-    let j = fit_row(words, i);
-    if j.period < k {
-        return 0;
-    }
-    row_demand(words, i, t)
-}
-
-fn held_of(words: &[u32], t: u64, k: u64) -> u64
-    requires { ⌜ Fit (tasksOf (now words)) × (t ≤ 1000000) ⌝ }
-    ensures { λ r. ⌜ Within 16000000000000 (held (tasksOf (now (words .entry))) t k) r ⌝ }
-{
-    let n = count(words);
-    let mut sum: u64 = 0;
-    let mut i: usize = 0;
-    while i < n {
-        sum = sum + hold(words, t, i, k);
-        i = i + 1;
-    }
-    sum
+    h
 }
 
 // a − b, and 0 where b is more.
@@ -91,71 +97,68 @@ fn less(a: u64, b: u64) -> u64
     if a < b { 0 } else { a - b }
 }
 
-fn least(a: u64, b: u64) -> u64
-    ensures { λ r. ⌜ r ≡ min a b ⌝ }
+// What t ticks bring of the shares v above 1.
+fn surplus(t: u64, v: u64) -> u64
+    requires { ⌜ (t ≤ 1000000) × (4294967296 ≤ v) × (v ≤ 68719494400) ⌝ }
+    ensures { λ r. ⌜ Within 64424527104000000 (t * (v - 4294967296)) r ⌝ }
 {
-    if a < b { a } else { b }
+    t * (v - 4294967296)
 }
 
 // The last tick, up to t, by which the work w and the lead e can exceed what the shares v leave.
 fn reached(t: u64, v: u64, e: u64, w: u64) -> u64
-    requires { ⌜ e ≤ 80000000000000000 ⌝ }
+    requires { ⌜ (t ≤ 1000000) × (v ≤ 68719494400) × (e ≤ 80000000000000000) ⌝ }
     ensures { λ r. ⌜ r ≡ dropBy t v e w ⌝ }
 {
-    if 4294967296 <= v {
-        return t;
-    }
     if 1000001 < w {
         return t;
     }
-    let m = less(e + 4294967296 * w, 4294967296);
-    m / (4294967296 - v)
-}
-
-// The bound where the rows are parted at the period k.
-fn drop_at(words: &[u32], t: u64, k: u64) -> u64
-    requires { ⌜ Fit (tasksOf (now words)) × (t ≤ 1000000) ⌝ }
-    ensures { λ r. ⌜ Drop (tasksOf (now (words .entry))) t r ⌝ }
-{
-    let v = rises_of(words, k);
-    let e = leads_of(words, k);
-    let w = held_of(words, t, k);
-    reached(t, v, e, w)
-}
-
-// The best bound of those that a row's period parts the rows for, and of all rows counted by their shares.
-fn drop_from(words: &[u32], t: u64) -> u64
-    requires { ⌜ Fit (tasksOf (now words)) × (t ≤ 1000000) ⌝ }
-    ensures { λ r. ⌜ Drop (tasksOf (now (words .entry))) t r ⌝ }
-{
-    let n = count(words);
-    let mut best = drop_at(words, t, 1000001);
-    let mut i: usize = 0;
-    while i < n {
-        let k = fit_row(words, i).period;
-        best = least(best, drop_at(words, t, k));
-        i = i + 1;
+    let m = e + 4294967296 * w;
+    if v < 4294967296 {
+        return less(m, 4294967296) / (4294967296 - v);
     }
-    best
+    if m + surplus(t, v) < 4294967296 {
+        return 0;
+    }
+    t
 }
 
-// The next tick below t to look at: none from the demand of t up to t is exceeded.
-fn below(t: u64, h: u64) -> u64
-    requires { ⌜ 1 ≤ t ⌝ }
-    ensures { λ r. ⌜ r ≡ min h (t - 1) ⌝ }
+// The bound where a row is counted by its share if it has a deadline after b.
+fn drop_at(words: &[u32], inverses: &[u64; 16], t: u64, b: u64) -> u64
+    requires { ⌜ Fit (tasksOf (now words)) × Inverses (tasksOf (now words)) (now inverses) × (t ≤ 1000000) × (b ≤ 1000000) ⌝ }
+    ensures { λ r. ⌜ Drop (tasksOf (now (words .entry))) t r ⌝ }
 {
-    if h < t { h } else { t - 1 }
+    let h = hold(words, inverses, t, b);
+    reached(t, h.rises, h.leads, h.held)
 }
 
-// Where the search goes on below t, whose demand is h: there, and after 32 sums at the bound if that is lower. Internal:
-// `assess` tests the rows first.
-pub fn lower(words: &[u32], t: u64, h: u64, sums: u64) -> u64
-    requires { ⌜ Fit (tasksOf (now words)) × (1 ≤ t) × (t ≤ 1000000) ⌝ }
+// The best of the first four bounds up to t, each for the rows with a deadline after the one before; u if none is lower.
+fn drops(words: &[u32], inverses: &[u64; 16], t: u64, h: u64, u: u64) -> u64
+    requires { ⌜ Fit (tasksOf (now words)) × Inverses (tasksOf (now words)) (now inverses) × (t ≤ 1000000) × (h ≤ t) × Lower (tasksOf (now words)) t h u ⌝ }
     ensures { λ r. ⌜ Lower (tasksOf (now (words .entry))) t h r ⌝ }
 {
-    let u = below(t, h);
-    if sums < 32 {
+    let mut at = u;
+    let mut turns: u64 = 0;
+    while turns < 4 {
+        let b = drop_at(words, inverses, t, at);
+        if at <= b {
+            return at;
+        }
+        at = b;
+        turns = turns + 1;
+    }
+    at
+}
+
+// Where the search goes on below t, whose demand h is no more than t: below h, and at the 16th sum and every 64th from
+// there on at the bound if that is lower. Internal: `assess` tests the rows first.
+pub fn lower(words: &[u32], inverses: &[u64; 16], t: u64, h: u64, sums: u64) -> u64
+    requires { ⌜ Fit (tasksOf (now words)) × Inverses (tasksOf (now words)) (now inverses) × (t ≤ 1000000) × (h ≤ t) ⌝ }
+    ensures { λ r. ⌜ Lower (tasksOf (now (words .entry))) t h r ⌝ }
+{
+    let u = less(h, 1);
+    if sums % 64 != 16 {
         return u;
     }
-    least(u, drop_from(words, t))
+    drops(words, inverses, t, h, u)
 }

@@ -1,64 +1,79 @@
 // A lower bound on every busy length, from the rows' utilisation (docs/SPECIFICATION.md §2.4): where the iteration would
 // take many short steps, it goes on from here.
 ghost use mathlib.Core.Path.{_≡_};
-ghost use Prim.Native.Nat.{_<_, _≤_, min, max};
+ghost use Prim.Native.Nat.{_*_, _≤_, min};
+ghost use lib.Dec.{ltb};
+ghost use Rattle.bounded.specs.Quotient.{ceilDiv};
 ghost use Rattle.table.specs.Rows.{tasksOf, Fit};
 ghost use Rattle.table.specs.Bound.{Within};
-ghost use Rattle.table.specs.Leap.{shareOf, askedOf, shares, asked, leapBy, Leap, Further};
-use super::request::row_request;
+ghost use Rattle.table.specs.Inverse.{Inverses, Tame};
+ghost use Rattle.table.specs.Leap.{shareBy, LightFilling, fillingBy, Filled, leapBy, Leap, Further};
+use super::inverse::Prepared;
+use super::inverse::prepare;
+use super::request::ceiling;
 use super::rows::count;
-use super::rows::fit_row;
 
-// Row i's share of time, in parts of 2 to the 32nd and rounded down, where its period is below k.
-fn share(words: &[u32], i: usize, k: u64) -> u64
-    requires { ⌜ Fit (tasksOf (now words)) × (i < tasksOf (now words) .rows) ⌝ }
-    ensures { λ r. ⌜ Within 1000000000000 (shareOf (tasksOf (now (words .entry))) k i) r ⌝ }
-{
-    let j = fit_row(words, i);
-    if j.period < k {
-        return 4294967296 * j.run / j.period;
-    }
-    0
+// Rows that recur, counted by their shares of time, in parts of 2 to the 32nd and rounded down; and what the others ask for.
+struct Filling {
+    shares: u64,
+    asked: u64,
 }
 
-fn shares_of(words: &[u32], k: u64) -> u64
-    requires { ⌜ Fit (tasksOf (now words)) ⌝ }
-    ensures { λ r. ⌜ Within 16000000000000 (shares (tasksOf (now (words .entry))) k) r ⌝ }
+// Whether the row k asks for more between the stretch r and the stretch b: the periods that it has begun end below b.
+fn recurs(k: Prepared, r: u64, b: u64) -> bool
+    requires { ⌜ Tame k × (r ≤ 1000000) ⌝ }
+    ensures { λ x. ⌜ x ≡ ltb (k .period * ceilDiv r (k .period)) b ⌝ }
+{
+    k.period * ceiling(r, k.period, k.inverse) < b
+}
+
+fn share(k: Prepared) -> u64
+    requires { ⌜ Tame k ⌝ }
+    ensures { λ x. ⌜ Within 1000000000000 (shareBy (k .run) (k .period)) x ⌝ }
+{
+    k.run * (k.inverse - 1) / 1024
+}
+
+fn ask(k: Prepared, r: u64) -> u64
+    requires { ⌜ Tame k × (r ≤ 1000000) ⌝ }
+    ensures { λ x. ⌜ Within 1000000000000 (k .run * ceilDiv r (k .period)) x ⌝ }
+{
+    k.run * ceiling(r, k.period, k.inverse)
+}
+
+// f with one row more, in the stretch r: by its share if it recurs before b.
+fn with_row(f: Filling, k: Prepared, r: u64, b: u64) -> Filling
+    requires { ⌜ LightFilling f × Tame k × (r ≤ 1000000) ⌝ }
+    ensures { λ x. ⌜ x ≡ fillingBy f k r b ⌝ }
+{
+    if recurs(k, r, b) {
+        return Filling {
+            shares: f.shares + share(k),
+            asked: f.asked,
+        };
+    }
+    Filling {
+        shares: f.shares,
+        asked: f.asked + ask(k, r),
+    }
+}
+
+fn fill(words: &[u32], inverses: &[u64; 16], r: u64, b: u64) -> Filling
+    requires { ⌜ Fit (tasksOf (now words)) × Inverses (tasksOf (now words)) (now inverses) × (r ≤ 1000000) ⌝ }
+    ensures { λ x. ⌜ Filled (tasksOf (now (words .entry))) r b (tasksOf (now (words .entry)) .rows) x ⌝ }
 {
     let n = count(words);
-    let mut sum: u64 = 0;
+    let mut f = Filling {
+        shares: 0,
+        asked: 0,
+    };
     let mut i: usize = 0;
     while i < n {
-        sum = sum + share(words, i, k);
+        let k = prepare(words, inverses, i);
+        f = with_row(f, k, r, b);
         i = i + 1;
     }
-    sum
-}
-
-// What row i asks for in a stretch r, where its period is not below k.
-fn ask(words: &[u32], r: u64, i: usize, k: u64) -> u64
-    requires { ⌜ Fit (tasksOf (now words)) × (i < tasksOf (now words) .rows) × (r ≤ 1000000) ⌝ }
-    ensures { λ x. ⌜ Within 1000000000000 (askedOf (tasksOf (now (words .entry))) r k i) x ⌝ }
-{
-    let j = fit_row(words, i);
-    if j.period < k {
-        return 0;
-    }
-    row_request(words, i, r)
-}
-
-fn asked_of(words: &[u32], r: u64, k: u64) -> u64
-    requires { ⌜ Fit (tasksOf (now words)) × (r ≤ 1000000) ⌝ }
-    ensures { λ x. ⌜ Within 16000000000000 (asked (tasksOf (now (words .entry))) r k) x ⌝ }
-{
-    let n = count(words);
-    let mut sum: u64 = 0;
-    let mut i: usize = 0;
-    while i < n {
-        sum = sum + ask(words, r, i, k);
-        i = i + 1;
-    }
-    sum
+    f
 }
 
 fn least(w: u64) -> u64
@@ -67,16 +82,13 @@ fn least(w: u64) -> u64
     if w < 1000001 { w } else { 1000001 }
 }
 
-fn most(a: u64, b: u64) -> u64
-    ensures { λ r. ⌜ r ≡ max a b ⌝ }
-{
-    if a < b { b } else { a }
-}
-
 // The stretch that work w fills beside the shares u.
 fn filled(u: u64, w: u64) -> u64
     ensures { λ r. ⌜ r ≡ leapBy u w ⌝ }
 {
+    if 4294967296 < u {
+        return 1000001;
+    }
     if w == 0 {
         return 0;
     }
@@ -87,32 +99,41 @@ fn filled(u: u64, w: u64) -> u64
     4294967296 * m / (4294967296 - u)
 }
 
-// The best bound of those that a row's period parts the rows for.
-fn leap_from(words: &[u32], r: u64) -> u64
-    requires { ⌜ Fit (tasksOf (now words)) × (r ≤ 1000000) ⌝ }
+// The bound where a row is counted by its share if it recurs below b.
+fn leap_at(words: &[u32], inverses: &[u64; 16], r: u64, b: u64) -> u64
+    requires { ⌜ Fit (tasksOf (now words)) × Inverses (tasksOf (now words)) (now inverses) × (1 ≤ r) × (r ≤ 1000000) ⌝ }
     ensures { λ x. ⌜ Leap (tasksOf (now (words .entry))) r x ⌝ }
 {
-    let n = count(words);
-    let mut best: u64 = 0;
-    let mut i: usize = 0;
-    while i < n {
-        let k = fit_row(words, i).period;
-        let u = shares_of(words, k);
-        let w = asked_of(words, r, k);
-        best = most(best, filled(u, w));
-        i = i + 1;
-    }
-    best
+    let f = fill(words, inverses, r, b);
+    filled(f.shares, f.asked)
 }
 
-// Where the iteration goes on after r, whose request is next: there, and after 32 sums at the bound if that is further.
-// Internal: `assess` tests the rows first.
-pub fn further(words: &[u32], r: u64, next: u64, sums: u64) -> u64
-    requires { ⌜ Fit (tasksOf (now words)) × (r ≤ 1000000) ⌝ }
+// The best of the first four bounds after r, each for the rows that recur below the one before; next if none is further.
+fn leaps(words: &[u32], inverses: &[u64; 16], r: u64, next: u64) -> u64
+    requires { ⌜ Fit (tasksOf (now words)) × Inverses (tasksOf (now words)) (now inverses) × (1 ≤ r) × (r ≤ 1000000) ⌝ }
     ensures { λ x. ⌜ Further (tasksOf (now (words .entry))) r next x ⌝ }
 {
-    if sums < 32 {
+    let mut at = next;
+    let mut turns: u64 = 0;
+    while turns < 4 {
+        let b = leap_at(words, inverses, r, at);
+        if b <= at {
+            return at;
+        }
+        at = b;
+        turns = turns + 1;
+    }
+    at
+}
+
+// Where the iteration goes on after r, whose request is next: there, and at the 16th sum and every 64th from there on at
+// the bound if that is further. Internal: `assess` tests the rows first.
+pub fn further(words: &[u32], inverses: &[u64; 16], r: u64, next: u64, sums: u64) -> u64
+    requires { ⌜ Fit (tasksOf (now words)) × Inverses (tasksOf (now words)) (now inverses) × (1 ≤ r) × (r ≤ 1000000) ⌝ }
+    ensures { λ x. ⌜ Further (tasksOf (now (words .entry))) r next x ⌝ }
+{
+    if sums % 64 != 16 {
         return next;
     }
-    most(next, leap_from(words, r))
+    leaps(words, inverses, r, next)
 }

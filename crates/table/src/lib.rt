@@ -7,12 +7,15 @@ ghost use Rattle.table.specs.Assess.{Shows, Judged, Assessed, refusedOf}
 
 pub mod budgets;
 pub mod busy;
-pub mod demand;
-pub mod drop;
-pub mod leap;
+mod demand;
+mod drop;
+pub mod inverse;
+pub mod kind;
+mod leap;
 pub mod overload;
-pub mod request;
+mod request;
 pub mod rows;
+mod settle;
 
 // The two kinds of an admitted table, and the four refusals (docs/SPECIFICATION.md §3; `shownOf` gives their numbers).
 pub enum Verdict {
@@ -113,7 +116,8 @@ fn judge(words: &[u32]) -> Assessment
     ensures { λ r. ⌜ Judged (tasksOf (now (words .entry))) r ⌝ }
 {
     let rows = rows::count(words);
-    let b = budgets::all_budgets(words);
+    let inverses = inverse::inverses_of(words);
+    let b = budgets::all_budgets(words, &inverses);
     let values = b.values;
     if b.loose {
         return Assessment {
@@ -121,8 +125,8 @@ fn judge(words: &[u32]) -> Assessment
             budgets: values,
         };
     }
-    let busy = busy::busy_length(words);
-    let found = overload::search(words, compared(busy.length));
+    let busy = busy::busy_length(words, &inverses);
+    let found = overload::search(words, &inverses, compared(busy.length));
     if found.at != 0 {
         return refused(Verdict::Overload {
             at: found.at,

@@ -1,6 +1,7 @@
 // A tick whose demand exceeds it (docs/SPECIFICATION.md §3.1), found by jumps and not by a scan: the QPA test.
 ghost use Prim.Native.Nat.{_≤_};
 ghost use Rattle.table.specs.Rows.{tasksOf, Fit};
+ghost use Rattle.table.specs.Inverse.{Inverses};
 ghost use Rattle.table.specs.Overload.{Searched};
 use super::demand::demand_at;
 use super::drop::lower;
@@ -14,14 +15,14 @@ pub struct Found {
 }
 
 // Looks at the ticks from 1 to end. Internal: `assess` tests the rows first.
-pub fn search(words: &[u32], end: u64) -> Found
-    requires { ⌜ Fit (tasksOf (now words)) × (end ≤ 1000000) ⌝ }
+pub fn search(words: &[u32], inverses: &[u64; 16], end: u64) -> Found
+    requires { ⌜ Fit (tasksOf (now words)) × Inverses (tasksOf (now words)) (now inverses) × (end ≤ 1000000) ⌝ }
     ensures { λ r. ⌜ Searched (tasksOf (now (words .entry))) end r ⌝ }
 {
     let mut t = end;
     let mut sums: u64 = 0;
     while 0 < t {
-        let h = demand_at(words, t);
+        let h = demand_at(words, inverses, t);
         sums = sums + 1;
         if t < h {
             return Found {
@@ -30,7 +31,7 @@ pub fn search(words: &[u32], end: u64) -> Found
                 sums,
             };
         }
-        t = lower(words, t, h, sums);
+        t = lower(words, inverses, t, h, sums);
     }
     Found {
         at: 0,

@@ -5,36 +5,38 @@ ghost use Rattle.bounded.specs.Quotient.{ceilDiv};
 ghost use Rattle.edf.specs.Demand.{rowRequest, request};
 ghost use Rattle.table.specs.Rows.{tasksOf, Fit};
 ghost use Rattle.table.specs.Bound.{Within};
+ghost use Rattle.table.specs.Inverse.{inverseOf, Inverses};
+use super::inverse::prepare;
+use super::inverse::quotient;
 use super::rows::count;
-use super::rows::fit_row;
 
-// a / b, rounded up.
-fn ceiling(a: u64, b: u64) -> u64
-    requires { ⌜ (a ≤ 1000000) × (1 ≤ b) × (b ≤ 1000000) ⌝ }
+// a / b, rounded up. Internal: its callers have b from a row that keeps its rule.
+pub fn ceiling(a: u64, b: u64, inverse: u64) -> u64
+    requires { ⌜ (a ≤ 1000000) × (1 ≤ b) × (b ≤ 1000000) × (inverse ≡ inverseOf b) ⌝ }
     ensures { λ r. ⌜ r ≡ ceilDiv a b ⌝ }
 {
-    (a + (b - 1)) / b
+    quotient(a + (b - 1), b, inverse)
 }
 
 // One row's part. Internal: its callers loop over rows that `assess` tested.
-pub fn row_request(words: &[u32], i: usize, x: u64) -> u64
-    requires { ⌜ Fit (tasksOf (now words)) × (i < tasksOf (now words) .rows) × (x ≤ 1000000) ⌝ }
+pub fn row_request(words: &[u32], inverses: &[u64; 16], i: usize, x: u64) -> u64
+    requires { ⌜ Fit (tasksOf (now words)) × Inverses (tasksOf (now words)) (now inverses) × (i < tasksOf (now words) .rows) × (x ≤ 1000000) ⌝ }
     ensures { λ r. ⌜ Within 1000000000000 (rowRequest (tasksOf (now (words .entry))) x i) r ⌝ }
 {
-    let k = fit_row(words, i);
-    k.run * ceiling(x, k.period)
+    let k = prepare(words, inverses, i);
+    k.run * ceiling(x, k.period, k.inverse)
 }
 
 // The sum over all rows of C times (x divided by T, rounded up). Internal: `assess` tests the rows first.
-pub fn requested(words: &[u32], x: u64) -> u64
-    requires { ⌜ Fit (tasksOf (now words)) × (x ≤ 1000000) ⌝ }
+pub fn requested(words: &[u32], inverses: &[u64; 16], x: u64) -> u64
+    requires { ⌜ Fit (tasksOf (now words)) × Inverses (tasksOf (now words)) (now inverses) × (x ≤ 1000000) ⌝ }
     ensures { λ r. ⌜ Within 16000000000000 (request (tasksOf (now (words .entry))) x) r ⌝ }
 {
     let n = count(words);
     let mut sum: u64 = 0;
     let mut i: usize = 0;
     while i < n {
-        sum = sum + row_request(words, i, x);
+        sum = sum + row_request(words, inverses, i, x);
         i = i + 1;
     }
     sum

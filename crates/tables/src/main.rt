@@ -30,9 +30,10 @@ fn put_budgets(values: [i64; 16], rows: u64) {
 fn put_sums(words: &[u32])
     requires { ⌜ Fit (tasksOf (now words)) ⌝ }
 {
-    let busy = table::busy::busy_length(words);
+    let inverses = table::inverse::inverses_of(words);
+    let busy = table::busy::busy_length(words, &inverses);
     let end = table::compared(busy.length);
-    let found = table::overload::search(words, end);
+    let found = table::overload::search(words, &inverses, end);
     io::write_all(STDOUT_FILENO, b"sums\t");
     put(busy.sums);
     put(found.sums);

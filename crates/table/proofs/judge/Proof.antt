@@ -7,6 +7,9 @@ use Rattle.table.proofs.judge.Tie as tie
 count-requires : tie.Need-count-requires
 count-requires c κs = search needs
 
+inverses-of-requires : tie.Need-inverses-of-requires
+inverses-of-requires c κs = search needs
+
 all-budgets-requires : tie.Need-all-budgets-requires
 all-budgets-requires c κs = search needs
 
@@ -42,6 +45,7 @@ judge-spec =
     tie.close
     (tie.spec
     count-requires
+    inverses-of-requires
     all-budgets-requires
     returns
     busy-length-requires

@@ -19,16 +19,13 @@ mul-e c = search needs
 array-share-prefix-words : tie.Need-array-share-prefix-words
 array-share-prefix-words c = let e : length (c .before .before .args .s .words) ≡ 48 = search needs in omega arith
 
-slice-aggregate-assess : tie.Need-slice-aggregate-assess
-slice-aggregate-assess c =
+slice-aggregate-kind-of : tie.Need-slice-aggregate-kind-of
+slice-aggregate-kind-of c =
     let e : length (c .before .before .before .args .s .words) ≡ 48 = search needs in
     sym (length-take-le _ _ (omega arith))
 
-assess-requires : tie.Need-assess-requires
-assess-requires c κs = search needs
-
-shown-requires : tie.Need-shown-requires
-shown-requires c κs = search needs
+kind-of-requires : tie.Need-kind-of-requires
+kind-of-requires c κs = search needs
 
 returns-2 : tie.Need-returns-2
 unfolding rowsOf
@@ -64,9 +61,8 @@ is-sound-spec =
     returns
     mul-e
     array-share-prefix-words
-    slice-aggregate-assess
-    assess-requires
-    shown-requires
+    slice-aggregate-kind-of
+    kind-of-requires
     returns-2
     returns-3
     returns-4

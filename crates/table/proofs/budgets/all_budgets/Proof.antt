@@ -1,17 +1,17 @@
 -- `table::budgets::all_budgets` meets its contract. Assumes nothing.
+use borrow.Author.Needs.{needs}
 use Prim.Native.Nat.{_≤_, _-_}
 use mathlib.Core.Path.{_≡_}
-use borrow.Author.Needs.{needs}
 use Rattle.table.specs.Budgets.{budgetsTo, budgets-laws}
 use Rattle.table.specs.Rows.{tasksOf}
 use Rattle.table.proofs.budgets.all_budgets.Statement.{statement}
 use Rattle.table.proofs.budgets.all_budgets.Tie as tie
 
 abbrev Inv-loop : tie.InvT-loop
-Inv-loop words n b₀ i₀ b i = (i ≤ n) × (b ≡ budgetsTo (tasksOf words) i)
+Inv-loop words inverses n b₀ i₀ b i = (i ≤ n) × (b ≡ budgetsTo (tasksOf words) i)
 
 abbrev μ-loop : tie.MeasureT-loop
-μ-loop words n b₀ i₀ b i = n - i
+μ-loop words inverses n b₀ i₀ b i = n - i
 
 count-requires : tie.Need-count-requires Inv-loop μ-loop
 count-requires c κs = search needs
@@ -19,8 +19,8 @@ count-requires c κs = search needs
 loop-holds : tie.Need-loop-holds Inv-loop μ-loop
 loop-holds c = search (needs, budgets-laws)
 
-budget-requires : tie.Need-budget-requires Inv-loop μ-loop
-budget-requires c κs = search needs
+value-of-requires : tie.Need-value-of-requires Inv-loop μ-loop
+value-of-requires c κs = search needs
 
 put-requires : tie.Need-put-requires Inv-loop μ-loop
 put-requires c κs = search needs
@@ -45,7 +45,7 @@ all-budgets-spec =
     μ-loop
     count-requires
     loop-holds
-    budget-requires
+    value-of-requires
     put-requires
     add-i
     loop-less

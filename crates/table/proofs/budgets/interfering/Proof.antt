@@ -1,7 +1,7 @@
 -- `table::budgets::interfering` meets its contract. Assumes nothing.
+use borrow.Author.Needs.{needs}
 use Prim.Native.Nat.{_≤_, _-_, _*_}
 use mathlib.Core.Path.{_≡_}
-use borrow.Author.Needs.{needs}
 use Rattle.bounded.specs.Sum.{sumTo}
 use Rattle.edf.specs.Demand.{interference}
 use Rattle.table.specs.Bound.{total-laws}
@@ -11,10 +11,10 @@ use Rattle.table.proofs.budgets.interfering.Statement.{statement}
 use Rattle.table.proofs.budgets.interfering.Tie as tie
 
 abbrev Inv-loop : tie.InvT-loop
-Inv-loop words i x n sum₀ j₀ sum j = (j ≤ n) × (sum ≡ sumTo (chargeOf (tasksOf words) i x) j) × (sum ≤ 1000000000000 * j)
+Inv-loop words inverses i x n sum₀ j₀ sum j = (j ≤ n) × (sum ≡ sumTo (chargeOf (tasksOf words) i x) j) × (sum ≤ 1000000000000 * j)
 
 abbrev μ-loop : tie.MeasureT-loop
-μ-loop words i x n sum₀ j₀ sum j = n - j
+μ-loop words inverses i x n sum₀ j₀ sum j = n - j
 
 count-requires : tie.Need-count-requires Inv-loop μ-loop
 count-requires c κs = search needs
@@ -26,10 +26,10 @@ charge-requires : tie.Need-charge-requires Inv-loop μ-loop
 charge-requires c κs = search needs
 
 add-sum : tie.Need-add-sum Inv-loop μ-loop
-add-sum c = search needs
+add-sum c = search (needs, total-laws)
 
 add-j : tie.Need-add-j Inv-loop μ-loop
-add-j c = search needs
+add-j c = search (needs, total-laws)
 
 loop-less : tie.Need-loop-less Inv-loop μ-loop
 loop-less c = search needs

@@ -1,16 +1,16 @@
 -- `table::busy::busy_length` meets its contract. Assumes nothing.
-use Prim.Native.Nat.{_-_}
 use borrow.Author.Needs.{needs}
+use Prim.Native.Nat.{_-_}
 use Rattle.table.specs.Busy.{Turn, busy-laws}
 use Rattle.table.specs.Rows.{tasksOf}
 use Rattle.table.proofs.busy.busy_length.Statement.{statement}
 use Rattle.table.proofs.busy.busy_length.Tie as tie
 
 abbrev Inv-loop : tie.InvT-loop
-Inv-loop words r₀ sums₀ r sums = Turn (tasksOf words) r sums
+Inv-loop words inverses r₀ sums₀ r sums = Turn (tasksOf words) r sums
 
 abbrev μ-loop : tie.MeasureT-loop
-μ-loop words r₀ sums₀ r sums = 1000000 - r
+μ-loop words inverses r₀ sums₀ r sums = 1000000 - r
 
 loop-holds : tie.Need-loop-holds Inv-loop μ-loop
 loop-holds c = search (needs, busy-laws)
@@ -19,13 +19,13 @@ requested-requires : tie.Need-requested-requires Inv-loop μ-loop
 requested-requires c κs = search needs
 
 add-sums : tie.Need-add-sums Inv-loop μ-loop
-add-sums c = search needs
+add-sums c = search (needs, busy-laws)
 
 further-requires : tie.Need-further-requires Inv-loop μ-loop
 further-requires c κs = search needs
 
 loop-less : tie.Need-loop-less Inv-loop μ-loop
-loop-less c = search (needs, busy-laws)
+loop-less c = search needs
 
 loop-again : tie.Need-loop-again Inv-loop μ-loop
 loop-again c = search (needs, busy-laws)

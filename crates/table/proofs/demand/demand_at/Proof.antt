@@ -1,7 +1,7 @@
 -- `table::demand::demand_at` meets its contract. Assumes nothing.
+use borrow.Author.Needs.{needs}
 use Prim.Native.Nat.{_≤_, _-_, _*_}
 use mathlib.Core.Path.{_≡_}
-use borrow.Author.Needs.{needs}
 use Rattle.bounded.specs.Sum.{sumTo}
 use Rattle.edf.specs.Demand.{rowDemand, demand}
 use Rattle.table.specs.Bound.{total-laws}
@@ -10,10 +10,10 @@ use Rattle.table.proofs.demand.demand_at.Statement.{statement}
 use Rattle.table.proofs.demand.demand_at.Tie as tie
 
 abbrev Inv-loop : tie.InvT-loop
-Inv-loop words t n sum₀ i₀ sum i = (i ≤ n) × (sum ≡ sumTo (rowDemand (tasksOf words) t) i) × (sum ≤ 1000000000000 * i)
+Inv-loop words inverses t n sum₀ i₀ sum i = (i ≤ n) × (sum ≡ sumTo (rowDemand (tasksOf words) t) i) × (sum ≤ 1000000000000 * i)
 
 abbrev μ-loop : tie.MeasureT-loop
-μ-loop words t n sum₀ i₀ sum i = n - i
+μ-loop words inverses t n sum₀ i₀ sum i = n - i
 
 count-requires : tie.Need-count-requires Inv-loop μ-loop
 count-requires c κs = search needs
@@ -25,7 +25,7 @@ row-demand-requires : tie.Need-row-demand-requires Inv-loop μ-loop
 row-demand-requires c κs = search needs
 
 add-sum : tie.Need-add-sum Inv-loop μ-loop
-add-sum c = search needs
+add-sum c = search (needs, total-laws)
 
 add-i : tie.Need-add-i Inv-loop μ-loop
 add-i c = search needs

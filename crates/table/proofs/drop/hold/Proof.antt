@@ -1,20 +1,52 @@
 -- `table::drop::hold` meets its contract. Assumes nothing.
 use borrow.Author.Needs.{needs}
-use Rattle.table.specs.Drop.{rise-cases}
+use Prim.Native.Nat.{_≤_, _-_}
+use Rattle.table.specs.Drop.{Held, held-laws}
+use Rattle.table.specs.Rows.{tasksOf}
 use Rattle.table.proofs.drop.hold.Statement.{statement}
 use Rattle.table.proofs.drop.hold.Tie as tie
 
-fit-row-requires : tie.Need-fit-row-requires
-fit-row-requires c κs = search needs
+abbrev Inv-loop : tie.InvT-loop
+Inv-loop words inverses t b n h₀ i₀ h i = (i ≤ n) × Held (tasksOf words) t b i h
 
-returns : tie.Need-returns
-returns c = search (needs, rise-cases)
+abbrev μ-loop : tie.MeasureT-loop
+μ-loop words inverses t b n h₀ i₀ h i = n - i
 
-row-demand-requires : tie.Need-row-demand-requires
-row-demand-requires c κs = search needs
+count-requires : tie.Need-count-requires Inv-loop μ-loop
+count-requires c κs = search needs
 
-returns-2 : tie.Need-returns-2
-returns-2 c = search (needs, rise-cases)
+loop-holds : tie.Need-loop-holds Inv-loop μ-loop
+loop-holds c = search (needs, held-laws)
+
+prepare-requires : tie.Need-prepare-requires Inv-loop μ-loop
+prepare-requires c κs = search needs
+
+with-row-requires : tie.Need-with-row-requires Inv-loop μ-loop
+with-row-requires c κs = search (needs, held-laws)
+
+add-i : tie.Need-add-i Inv-loop μ-loop
+add-i c = search needs
+
+loop-less : tie.Need-loop-less Inv-loop μ-loop
+loop-less c = search needs
+
+loop-again : tie.Need-loop-again Inv-loop μ-loop
+loop-again c = search (needs, held-laws)
+
+returns : tie.Need-returns Inv-loop μ-loop
+returns c = search (needs, held-laws)
 
 pub hold-spec : {M : Type 1} → statement M
-hold-spec = tie.close (tie.spec fit-row-requires returns row-demand-requires returns-2)
+hold-spec =
+    tie.close
+    (tie.spec
+    Inv-loop
+    μ-loop
+    count-requires
+    loop-holds
+    prepare-requires
+    with-row-requires
+    add-i
+    loop-less
+    loop-again
+    returns)

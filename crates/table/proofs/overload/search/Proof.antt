@@ -6,10 +6,10 @@ use Rattle.table.proofs.overload.search.Statement.{statement}
 use Rattle.table.proofs.overload.search.Tie as tie
 
 abbrev Inv-loop : tie.InvT-loop
-Inv-loop words end t₀ sums₀ t sums = Clear (tasksOf words) end t sums
+Inv-loop words inverses end t₀ sums₀ t sums = Clear (tasksOf words) end t sums
 
 abbrev μ-loop : tie.MeasureT-loop
-μ-loop words end t₀ sums₀ t sums = t
+μ-loop words inverses end t₀ sums₀ t sums = t
 
 loop-holds : tie.Need-loop-holds Inv-loop μ-loop
 loop-holds c = search (needs, overload-laws)
@@ -18,7 +18,7 @@ demand-at-requires : tie.Need-demand-at-requires Inv-loop μ-loop
 demand-at-requires c κs = search needs
 
 add-sums : tie.Need-add-sums Inv-loop μ-loop
-add-sums c = search needs
+add-sums c = search (needs, overload-laws)
 
 returns : tie.Need-returns Inv-loop μ-loop
 returns c = search (needs, overload-laws)
@@ -27,7 +27,7 @@ lower-requires : tie.Need-lower-requires Inv-loop μ-loop
 lower-requires c κs = search needs
 
 loop-less : tie.Need-loop-less Inv-loop μ-loop
-loop-less c = search (needs, overload-laws)
+loop-less c = search needs
 
 loop-again : tie.Need-loop-again Inv-loop μ-loop
 loop-again c = search (needs, overload-laws)

@@ -1,7 +1,7 @@
 -- `table::request::requested` meets its contract. Assumes nothing.
+use borrow.Author.Needs.{needs}
 use Prim.Native.Nat.{_≤_, _-_, _*_}
 use mathlib.Core.Path.{_≡_}
-use borrow.Author.Needs.{needs}
 use Rattle.bounded.specs.Sum.{sumTo}
 use Rattle.edf.specs.Demand.{rowRequest, request}
 use Rattle.table.specs.Bound.{total-laws}
@@ -10,10 +10,10 @@ use Rattle.table.proofs.request.requested.Statement.{statement}
 use Rattle.table.proofs.request.requested.Tie as tie
 
 abbrev Inv-loop : tie.InvT-loop
-Inv-loop words x n sum₀ i₀ sum i = (i ≤ n) × (sum ≡ sumTo (rowRequest (tasksOf words) x) i) × (sum ≤ 1000000000000 * i)
+Inv-loop words inverses x n sum₀ i₀ sum i = (i ≤ n) × (sum ≡ sumTo (rowRequest (tasksOf words) x) i) × (sum ≤ 1000000000000 * i)
 
 abbrev μ-loop : tie.MeasureT-loop
-μ-loop words x n sum₀ i₀ sum i = n - i
+μ-loop words inverses x n sum₀ i₀ sum i = n - i
 
 count-requires : tie.Need-count-requires Inv-loop μ-loop
 count-requires c κs = search needs
@@ -25,7 +25,7 @@ row-request-requires : tie.Need-row-request-requires Inv-loop μ-loop
 row-request-requires c κs = search needs
 
 add-sum : tie.Need-add-sum Inv-loop μ-loop
-add-sum c = search needs
+add-sum c = search (needs, total-laws)
 
 add-i : tie.Need-add-i Inv-loop μ-loop
 add-i c = search needs

@@ -1,8 +1,8 @@
--- `table::budgets::budget` meets its contract. Assumes nothing.
+-- `table::budgets::value_of` meets its contract. Assumes nothing.
 use borrow.Author.Needs.{needs}
 use Rattle.table.specs.Budgets.{budget-is}
-use Rattle.table.proofs.budgets.budget.Statement.{statement}
-use Rattle.table.proofs.budgets.budget.Tie as tie
+use Rattle.table.proofs.budgets.value_of.Statement.{statement}
+use Rattle.table.proofs.budgets.value_of.Tie as tie
 
 fit-row-requires : tie.Need-fit-row-requires
 fit-row-requires c κs = search needs
@@ -16,5 +16,5 @@ minus-requires c κs = search needs
 returns : tie.Need-returns
 returns c = search (needs, budget-is)
 
-pub budget-spec : {M : Type 1} → statement M
-budget-spec = tie.close (tie.spec fit-row-requires interfering-requires minus-requires returns)
+pub value-of-spec : {M : Type 1} → statement M
+value-of-spec = tie.close (tie.spec fit-row-requires interfering-requires minus-requires returns)
