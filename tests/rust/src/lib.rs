@@ -4,6 +4,7 @@
 pub mod calls;
 pub mod damage;
 pub mod driver;
+pub mod hard;
 pub mod inputs;
 pub mod options;
 pub mod process;

@@ -34,6 +34,19 @@ impl Rng {
         low + (self.draw() % (u64::from(high - low) + 1)) as u32
     }
 
+    /// A fraction from 0 up to, but without, 1.
+    pub fn fraction(&mut self) -> f64 {
+        (self.draw() >> 11) as f64 / (1u64 << 53) as f64
+    }
+
+    /// A number from `low` to `high`, each size as likely as the next;
+    /// `low` must not be 0.
+    pub fn of_any_size(&mut self, low: u32, high: u32) -> u32 {
+        let ratio = (f64::from(high) + 1.0) / f64::from(low);
+        let number = f64::from(low) * ratio.powf(self.fraction());
+        (number as u32).clamp(low, high)
+    }
+
     /// True `hits` times out of `of`.
     pub fn chance(&mut self, hits: usize, of: usize) -> bool {
         self.below(of) < hits

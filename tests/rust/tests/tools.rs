@@ -1,9 +1,11 @@
 //! The parts that the comparing tools rest on.
 
+use shuffle_model::hard::{full_to, full_to_one, mutant, utilisation, with_longer_deadlines};
 use shuffle_model::inputs::random_input;
 use shuffle_model::rng::Rng;
 use shuffle_model::shrink::shrink;
 use shuffle_model::specification::listing;
+use shuffle_model::table::{Row, ROW_LIMIT};
 use shuffle_model::tally::Tally;
 
 #[test]
@@ -50,4 +52,26 @@ fn gaps_name_what_is_missing_and_what_is_impossible() {
     assert!(!gaps.contains(&"A 7 was never reached".to_string()));
     tally.add(b"0\tR\t12\t9007199254740992\t0\n");
     assert!(tally.gaps().contains(&"R 12 was not expected".to_string()));
+}
+
+#[test]
+fn hard_tables_are_lawful_and_nearly_full() {
+    let is_lawful =
+        |rows: &[Row]| (1..=ROW_LIMIT).contains(&rows.len()) && rows.iter().all(Row::is_lawful);
+    let mut rng = Rng::new(1);
+    let mut near = 0;
+    for _ in 0..500 {
+        let full = full_to_one(&mut rng);
+        assert!(is_lawful(&full), "{full:?}");
+        assert!((utilisation(&full) - 1.0).abs() < 1e-12, "{full:?}");
+        let mut rows = full_to(&mut rng, 0.999);
+        near += u32::from((utilisation(&rows) - 0.999).abs() < 1e-4);
+        for _ in 0..20 {
+            assert!(is_lawful(&rows), "{rows:?}");
+            rows = mutant(&mut rng, &rows, 0.999);
+        }
+        let longer = with_longer_deadlines(&rows).unwrap_or(rows);
+        assert!(is_lawful(&longer), "{longer:?}");
+    }
+    assert!(near > 400, "{near} of 500 come near");
 }
