@@ -11,7 +11,7 @@ use Rattle.edf.specs.Jobs.{jobsBy, jobs-none, jobs-some}
 use Rattle.edf.specs.Demand.{TaskSet, rowDemand}
 use Rattle.table.specs.declared.inverse.Prepared.{Prepared}
 use Rattle.table.specs.Bound.{Within, product-small, product-fits}
-use Rattle.table.specs.Inverse.{Ready}
+use Rattle.table.specs.Inverse.{Ready, Tame, tame-of}
 
 -- how many jobs are due by t, as one quotient
 module _ (D T t : ℕ) (h : 1 ≤ D) (l : D ≤ T) where
@@ -34,14 +34,17 @@ module _ (D T t : ℕ) (h : 1 ≤ D) (l : D ≤ T) where
       let same : q ≡ jobsBy D T t = e ∙ jobs-quotient in
       record { is = same; small = omega (arith, jobs-small k) }
 
-module _ (τ : TaskSet) (i t q : ℕ) (k : Prepared) (f : Ready τ i k) (w : Within 1000000 (jobsBy (k .deadline) (k .period) t) q) where
-  pub demand-fits : Fits w64 (k .run * q)
-  demand-fits = let r = f .row in let u = f .rule in product-fits (k .run) q (omega arith) (w .small)
+module _ (k : Prepared) (u : Tame k) (t q : ℕ) (w : Within 1000000 (jobsBy (k .deadline) (k .period) t) q) where
+  pub owe-fits : Fits w64 (k .run * q)
+  owe-fits = product-fits (k .run) q (omega arith) (w .small)
 
-  pub demand-within : Within 1000000000000 (rowDemand τ t i) (k .run * q)
-  demand-within = let r = f .row in let u = f .rule in record {
-    is = rw (w .is, f .row .run, f .row .period, f .row .deadline);
-    small = product-small (k .run) q (omega arith) (w .small);
-  }
+  pub owe-is : Within 1000000000000 (k .run * jobsBy (k .deadline) (k .period) t) (k .run * q)
+  owe-is = record { is = rw (w .is); small = product-small (k .run) q (omega arith) (w .small) }
 
-pub ruleset demand-laws = (jobs-is, demand-fits, demand-within)
+pub ruleset owe-laws = (jobs-is, owe-fits, owe-is)
+
+pub demand-is : (τ : TaskSet) (i t r : ℕ) (k : Prepared) → Ready τ i k → Within 1000000000000 (k .run * jobsBy (k .deadline) (k .period) t) r → Within 1000000000000 (rowDemand τ t i) r
+demand-is τ i t r k f w =
+    record { is = w .is ∙ rw (f .row .run, f .row .period, f .row .deadline); small = w .small }
+
+pub ruleset demand-laws = (tame-of, demand-is)

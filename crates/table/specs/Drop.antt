@@ -226,13 +226,7 @@ module _ (k : Prepared) (u : Tame k) where
     pub due-is : (b : ℕ) → ltb (b + (k .period - k .deadline)) (k .period * q) ≡ ltb (b + (k .period - k .deadline)) (k .period * jobsBy (k .deadline) (k .period) t)
     due-is b = rw (w .is)
 
-    pub owe-fits : Fits w64 (k .run * q)
-    owe-fits = product-fits (k .run) q (omega arith) (w .small)
-
-    pub owe-is : Within 1000000000000 (k .run * jobsBy (k .deadline) (k .period) t) (k .run * q)
-    owe-is = record { is = rw (w .is); small = product-small (k .run) q (omega arith) (w .small) }
-
-pub ruleset owe-cases = (rise-scaled, rise-fits, rise-is, lead-fits, lead-is, due-fits, due-is, owe-fits, owe-is)
+pub ruleset rise-cases = (rise-scaled, rise-fits, rise-is, lead-fits, lead-is, due-fits, due-is)
 
 module _ (h : Holding) (k : Prepared) (t b x : ℕ) (o : Bool) (e : o ≡ ltb (b + (k .period - k .deadline)) (k .period * jobsBy (k .deadline) (k .period) t)) where
   pub holding-on : (y : ℕ) → o ≡ true → Within 4294968400 (riseBy (k .run) (k .period)) x → Within 5000000000000000 (x * (k .period - k .deadline)) y

@@ -14,12 +14,13 @@ use mir.Val.{Fits}
 use borrow.Author.Tests.{eq-eqb, ne-eqb, le-leb, lt-leb, lt-ltb, le-ltb, eqb-false, leb-true, leb-false, ltb-true}
 use Rattle.bounded.specs.Tests.{both, gate, gate-on, gate-off}
 use Rattle.bounded.specs.Sum.{sumTo, sum-le, sum-add, sum-mul, sum-start, sum-next}
-use Rattle.bounded.specs.Quotient.{ceilDiv, ceil-after, ceil-mono, ceil-small}
+use Rattle.bounded.specs.Quotient.{ceilDiv, ceil-after, ceil-mono}
 use Rattle.edf.specs.Demand.{TaskSet, rowRequest, request}
 use Rattle.table.specs.declared.inverse.Prepared.{Prepared}
 use Rattle.table.specs.declared.leap.Filling.{Filling}
 use Rattle.table.specs.Rows.{horizon, Fit}
-use Rattle.table.specs.Bound.{Within, product-small, product-fits}
+use Rattle.table.specs.Bound.{Within, product-fits}
+use Rattle.table.specs.Request.{quotient-small, ask-is}
 use Rattle.table.specs.Inverse.{whole, inverseOf, inverse-under, inverse-some, Ready, Tame, tame-of}
 
 -- shares of time are counted in parts of 2 ^ 32
@@ -174,22 +175,13 @@ module _ (k : Prepared) (t : Tame k) where
   share-is = record { is = rw (t .inverse); small = omega (arith, share-product, div-mul-le-self (k .run * (k .inverse - 1)) 1024) }
 
   module _ (r q : ℕ) (h : r ≤ horizon) (e : q ≡ ceilDiv r (k .period)) where
-    asked-few : q ≤ 1000000
-    asked-few = omega (arith, ceil-small r (k .period) (omega arith))
-
     pub recurs-fits : Fits w64 (k .period * q)
-    recurs-fits = product-fits (k .period) q (t .limit) asked-few
+    recurs-fits = product-fits (k .period) q (t .limit) (quotient-small k t r q h e)
 
     pub recurs-is : (b : ℕ) → ltb (k .period * q) b ≡ ltb (k .period * ceilDiv r (k .period)) b
     recurs-is b = rw e
 
-    pub asked-fits : Fits w64 (k .run * q)
-    asked-fits = product-fits (k .run) q (omega arith) asked-few
-
-    pub asked-is : Within 1000000000000 (k .run * ceilDiv r (k .period)) (k .run * q)
-    asked-is = record { is = rw e; small = product-small (k .run) q (omega arith) asked-few }
-
-pub ruleset ask-cases = (share-some, share-fits, share-is, recurs-fits, recurs-is, asked-fits, asked-is)
+pub ruleset share-cases = (share-some, share-fits, share-is, recurs-fits, recurs-is)
 
 module _ (f : Filling) (k : Prepared) (r b x : ℕ) (t : Bool) (e : t ≡ ltb (k .period * ceilDiv r (k .period)) b) where
   pub filling-on : t ≡ true → Within 1000000000000 (shareBy (k .run) (k .period)) x
@@ -258,7 +250,7 @@ module _ (τ : TaskSet) (r b i : ℕ) (f x : Filling) (k : Prepared) (high : r �
       little-of : Tame k → rowRequest τ r i ≤ 1000000000000
       little-of u =
           let w = y .row in
-          let s = asked-is k u r (ceilDiv r (k .period)) high refl in
+          let s = ask-is k u r (ceilDiv r (k .period)) high refl in
           rw (sym (w .run), sym (w .period)) (s .small)
 
 pub filled-done : (τ : TaskSet) (r b i n : ℕ) (f : Filling) → Filled τ r b i f → i ≤ n → n ≤ i → n ≡ τ .rows → Filled τ r b (τ .rows) f

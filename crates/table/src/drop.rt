@@ -9,6 +9,7 @@ ghost use Rattle.table.specs.Bound.{Within};
 ghost use Rattle.table.specs.Inverse.{Inverses, Tame};
 ghost use Rattle.table.specs.Drop.{riseBy, LightHolding, holdingBy, Held, dropBy, Drop, Lower};
 use super::demand::jobs_by;
+use super::demand::owe;
 use super::inverse::Prepared;
 use super::inverse::prepare;
 use super::rows::count;
@@ -42,13 +43,6 @@ fn lead(k: Prepared, v: u64) -> u64
     ensures { λ r. ⌜ Within 5000000000000000 (v * (k .period - k .deadline)) r ⌝ }
 {
     v * (k.period - k.deadline)
-}
-
-fn owe(k: Prepared, t: u64) -> u64
-    requires { ⌜ Tame k × (t ≤ 1000000) ⌝ }
-    ensures { λ r. ⌜ Within 1000000000000 (k .run * jobsBy (k .deadline) (k .period) t) r ⌝ }
-{
-    k.run * jobs_by(k.deadline, k.period, k.inverse, t)
 }
 
 // h with one row more, at t: by its share if it has a deadline after b.

@@ -10,6 +10,7 @@ ghost use Rattle.table.specs.Inverse.{Inverses, Tame};
 ghost use Rattle.table.specs.Leap.{shareBy, LightFilling, fillingBy, Filled, leapBy, Leap, Further};
 use super::inverse::Prepared;
 use super::inverse::prepare;
+use super::request::ask;
 use super::request::ceiling;
 use super::rows::count;
 
@@ -32,13 +33,6 @@ fn share(k: Prepared) -> u64
     ensures { λ x. ⌜ Within 1000000000000 (shareBy (k .run) (k .period)) x ⌝ }
 {
     k.run * (k.inverse - 1) / 1024
-}
-
-fn ask(k: Prepared, r: u64) -> u64
-    requires { ⌜ Tame k × (r ≤ 1000000) ⌝ }
-    ensures { λ x. ⌜ Within 1000000000000 (k .run * ceilDiv r (k .period)) x ⌝ }
-{
-    k.run * ceiling(r, k.period, k.inverse)
 }
 
 // f with one row more, in the stretch r: by its share if it recurs before b.

@@ -1,6 +1,6 @@
 -- `table::drop::due` meets its contract. Assumes nothing.
 use borrow.Author.Needs.{needs}
-use Rattle.table.specs.Drop.{owe-cases}
+use Rattle.table.specs.Drop.{rise-cases}
 use Rattle.table.proofs.drop.due.Statement.{statement}
 use Rattle.table.proofs.drop.due.Tie as tie
 
@@ -14,10 +14,10 @@ jobs-by-requires : tie.Need-jobs-by-requires
 jobs-by-requires c κs = search needs
 
 mul-result : tie.Need-mul-result
-mul-result c = search (needs, owe-cases)
+mul-result c = search (needs, rise-cases)
 
 returns : tie.Need-returns
-returns c = search (needs, owe-cases)
+returns c = search (needs, rise-cases)
 
 pub due-spec : {M : Type 1} → statement M
 due-spec = tie.close (tie.spec sub-result add-result jobs-by-requires mul-result returns)
