@@ -1,10 +1,11 @@
 -- Whether there is a busy length up to 1,000,000, by a stretch that is no shorter than its request (docs/SPECIFICATION.md
 -- §2.4), and what is then enough to compare. Assumes nothing.
-use Prim.Native.Nat.{ℕ, _+_, _-_, _≤_, _<_}
+use Prim.Native.Nat.{ℕ, _+_, _-_, _/_, _≤_, _<_}
 use mathlib.Core.Path.{_≡_}
 use mathlib.Core.Bool.{true, false}
 use mathlib.Core.Logic.{dite, ⊎-elim}
 use native.Mathlib.Omega.{arith}
+use native.Mathlib.Nat.{div-le-self, le-div-iff-mul-le}
 use native.Mathlib.Decide.{decLe}
 use borrow.Author.Tests.{le-leb, leb-true}
 use Rattle.bounded.specs.Tests.{both}
@@ -81,6 +82,10 @@ module _ (τ : TaskSet) where
     past-at x o (found a b k) l = found {x = x} (omega arith) (omega (arith, p .high)) k
     past-at x o (none k) l = absurd (omega (arith, p .high))
 
+    pub past-low : (x : ℕ) → 100000 < e → Climbed τ (e - 49999) e x → 9 ≤ x
+    past-low x o (found a b k) = omega arith
+    past-low x o (none k) = omega arith
+
     pub past-next : (x : ℕ) → 100000 < e → Climbed τ (e - 49999) e x → e < x → NonePast τ (e - 50000)
     past-next x o (found a b k) l = absurd (omega arith)
     past-next x o (none k) l = record {
@@ -92,7 +97,21 @@ module _ (τ : TaskSet) where
     pub past-end : e ≤ 100000 → Settles τ 1000001
     past-end l = none (λ q a b. dite (decLe q 100000) (λ m. p .near q a m) (λ m. p .far q (omega arith) b))
 
-pub ruleset past-laws = (past-found, past-start, past-at, past-next, past-end)
+pub ruleset past-laws = (past-found, past-start, past-at, past-low, past-next, past-end)
+
+-- ---- a part of such a stretch
+
+module _ (τ : TaskSet) (r m : ℕ) (high : r ≤ horizon) where
+  pub part-high : r / m ≤ horizon
+  part-high = omega (arith, div-le-self r m)
+
+  pub part-found : (x : ℕ) → 9 ≤ r → 1 < m → m ≤ 9 → Within 16000000000000 (request τ (r / m)) x → x ≤ r / m → Settles τ (r / m)
+  part-found x l o k w h =
+      found
+      (le-div-iff-mul-le {k = m} {x = 1} {y = r} (omega arith) .1 (omega arith))
+      part-high (omega (arith, w .is))
+
+pub ruleset part-laws = (part-high, part-found)
 
 -- ---- what it decides
 

@@ -25,6 +25,23 @@ fn climb(words: &[u32], inverses: &[u64; 16], from: u64, end: u64) -> u64
     1000001
 }
 
+// The least of r / 9, r / 8, .., r / 2 that is such a stretch; r if none is. Where the utilisation is near 1, r is often a
+// multiple of the busy length.
+fn part_of(words: &[u32], inverses: &[u64; 16], r: u64) -> u64
+    requires { ⌜ Fit (tasksOf (now words)) × Inverses (tasksOf (now words)) (now inverses) × (9 ≤ r) × (r ≤ 1000000) × Settles (tasksOf (now words)) r ⌝ }
+    ensures { λ x. ⌜ Settles (tasksOf (now (words .entry))) x ⌝ }
+{
+    let mut m: u64 = 9;
+    while 1 < m {
+        let q = r / m;
+        if requested(words, inverses, q) <= q {
+            return q;
+        }
+        m = m - 1;
+    }
+    r
+}
+
 // Some such stretch up to 1,000,000; 1,000,001 where there is none. The least one is looked for up to 100,000, since the
 // search for an overload then has the less to do. Past that the last ones are found soonest: of each there are multiples.
 // Internal: its callers have tested the rows.
@@ -40,7 +57,7 @@ pub fn settling(words: &[u32], inverses: &[u64; 16]) -> u64
     while 100000 < end {
         let r = climb(words, inverses, end - 49999, end);
         if r <= end {
-            return r;
+            return part_of(words, inverses, r);
         }
         end = end - 50000;
     }

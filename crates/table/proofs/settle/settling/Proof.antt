@@ -26,6 +26,9 @@ sub-climb c = search (needs, past-laws)
 climb-requires-2 : tie.Need-climb-requires-2 Inv-loop μ-loop
 climb-requires-2 c κs = search needs
 
+part-of-requires : tie.Need-part-of-requires Inv-loop μ-loop
+part-of-requires c κs = search (needs, past-laws)
+
 returns-2 : tie.Need-returns-2 Inv-loop μ-loop
 returns-2 c = search (needs, past-laws)
 
@@ -52,6 +55,7 @@ settling-spec =
     loop-holds
     sub-climb
     climb-requires-2
+    part-of-requires
     returns-2
     sub-end
     loop-less
