@@ -125,11 +125,11 @@ overloaded-some τ t w =
 -- ---- the code's ways out, for rows that keep their rule
 
 module _ (τ : TaskSet) (b : Budgets) (e : b ≡ budgetsOf τ) where
-  is-loose : b .loose ≡ loose τ
+  pub is-loose : b .loose ≡ loose τ
   unfolding budgetsOf
   is-loose = ap (λ z. z .loose) e
 
-  is-values : b .values ≡ valuesOf τ
+  pub is-values : b .values ≡ valuesOf τ
   unfolding budgetsOf
   is-values = ap (λ z. z .values) e
 

@@ -14,11 +14,11 @@ use Rattle.edf.specs.Demand.{TaskSet}
 use Rattle.table.specs.declared.kind.Kind.{Kind}
 use Rattle.table.specs.declared.budgets.Budgets.{Budgets}
 use Rattle.table.specs.declared.overload.Found.{Found}
-use Rattle.table.specs.Rows.{tasksOf, firstBroken, Fit, fit-of}
-use Rattle.table.specs.Budgets.{loose, valuesOf, budgetsOf}
+use Rattle.table.specs.Rows.{tasksOf, firstBroken, Fit}
+use Rattle.table.specs.Budgets.{budgetsOf}
 use Rattle.table.specs.Overload as search
 use Rattle.table.specs.Verdict.{Answer, badLength, overloaded, settled, opinionOf, answerOf, kindOf}
-use Rattle.table.specs.Assess.{length-fit}
+use Rattle.table.specs.Assess.{is-loose, is-values, assess-fit}
 use Rattle.table.specs.Theorems.{answer-as}
 use Rattle.table.specs.Settle.{found, none, Settles, unsettled-by, settled-by, fits-by, over-by}
 
@@ -37,25 +37,17 @@ unfitKind = record { number = 0; budgets = replicate 16 (pos 0) }
 -- ---- the code's ways out, for rows that keep their rule
 
 module _ (τ : TaskSet) (fit : Fit τ) (b : Budgets) (e : b ≡ budgetsOf τ) where
-  is-loose : b .loose ≡ loose τ
-  unfolding budgetsOf
-  is-loose = ap (λ z. z .loose) e
-
-  is-values : b .values ≡ valuesOf τ
-  unfolding budgetsOf
-  is-values = ap (λ z. z .values) e
-
   pub kind-loose : b .loose ≡ true → KindOf (opinionOf τ 0) (record { number = 1; budgets = b .values })
   unfolding opinionOf
-  kind-loose t = simp (sym is-loose ∙ t) (record { number = refl; budgets = is-values })
+  kind-loose t = simp (sym (is-loose τ b e) ∙ t) (record { number = refl; budgets = is-values τ b e })
 
   module _ (x : ℕ) (s : Settles τ x) (no : b .loose ≡ false) where
     pub kind-unsettled : (k : Kind) → 1000000 < x → k ≡ unfitKind → KindOf (opinionOf τ 0) k
     unfolding opinionOf
     kind-unsettled k h g =
         rw g
-        (both (overloaded τ) (λ o. simp (sym is-loose ∙ no, o) (record { number = refl; budgets = refl }))
-        (λ o. simp (sym is-loose ∙ no, o, unsettled s h) (record { number = refl; budgets = refl })))
+        (both (overloaded τ) (λ o. simp (sym (is-loose τ b e) ∙ no, o) (record { number = refl; budgets = refl }))
+        (λ o. simp (sym (is-loose τ b e) ∙ no, o, unsettled s h) (record { number = refl; budgets = refl })))
       where
         unsettled : {x : ℕ} → Settles τ x → 1000000 < x → settled τ ≡ false
         unsettled (found l h k) p = absurd (omega arith)
@@ -64,7 +56,7 @@ module _ (τ : TaskSet) (fit : Fit τ) (b : Budgets) (e : b ≡ budgetsOf τ) wh
     module _ (h : x ≤ 1000000) (f : Found) (r : search.Searched τ x f) where
       pub kind-over : (k : Kind) → (f .at ≡ 0 → ⊥) → k ≡ unfitKind → KindOf (opinionOf τ 0) k
       unfolding opinionOf
-      kind-over k ne g = rw g (simp (sym is-loose ∙ no, over s h (r .outcome) ne) (record { number = refl; budgets = refl }))
+      kind-over k ne g = rw g (simp (sym (is-loose τ b e) ∙ no, over s h (r .outcome) ne) (record { number = refl; budgets = refl }))
         where
           over : {x t d : ℕ} → Settles τ x → x ≤ 1000000 → search.Outcome τ x t d → (t ≡ 0 → ⊥) → overloaded τ ≡ true
           over {x} {t} (found l m k) p (search.over a b c d) ne = over-by τ fit x l m k t (omega arith)
@@ -75,7 +67,7 @@ module _ (τ : TaskSet) (fit : Fit τ) (b : Budgets) (e : b ≡ budgetsOf τ) wh
       unfolding opinionOf
       kind-tight z =
           let w = tight s h (r .outcome) z in
-          simp (sym is-loose ∙ no, w .0, w .1) (record { number = refl; budgets = is-values })
+          simp (sym (is-loose τ b e) ∙ no, w .0, w .1) (record { number = refl; budgets = is-values τ b e })
         where
           tight : {x t d : ℕ} → Settles τ x → x ≤ 1000000 → search.Outcome τ x t d → t ≡ 0 → (overloaded τ ≡ false) × (settled τ ≡ true)
           tight (found l m k) p (search.over a b c d) z = absurd (omega arith)
@@ -99,14 +91,11 @@ module _ (l : List ℕ) (b : Bool) (e : b ≡ badLength (length l)) where
         (simp (sym e ∙ no, lt-ltb (firstBroken (tasksOf l)) (tasksOf l .rows) (omega arith))
         (record { number = refl; budgets = refl }))
 
-    pub kind-fits : n ≤ i → Fit (tasksOf l)
-    kind-fits h = let g = length-fit l (sym e ∙ no) in fit-of (tasksOf l) (g .0) (g .1) (omega arith)
-
     pub kind-judged : (k : Kind) → n ≤ i → KindOf (opinionOf (tasksOf l) 0) k → Kinded l k
     unfolding answerOf
     kind-judged k h j = simp (sym e ∙ no, le-ltb (firstBroken (tasksOf l)) (tasksOf l .rows) (omega arith)) j
 
-pub ruleset kind-cases = (kind-length, kind-row, kind-fits, kind-judged)
+pub ruleset kind-cases = (kind-length, kind-row, assess-fit, kind-judged)
 
 -- ---- what a kind says of the answer
 
