@@ -22,6 +22,7 @@ use Rattle.table.specs.Rows.{Fit}
 use Rattle.table.specs.Bound.{Within, product-small, product-fits}
 use Rattle.table.specs.Demand.{jobs-small}
 use Rattle.table.specs.Inverse.{inverseOf, inverse-over, inverse-under, inverse-more, Ready, Tame, tame-of}
+use Rattle.table.specs.Sieve.{Sieved, given-back}
 use Rattle.table.specs.Leap.{scale}
 
 -- a job of row i falls due after b, up to t: the last one by t is due at (jobs by t) * T - (T - D)
@@ -376,7 +377,20 @@ pub lower-drop : (τ : TaskSet) (t h a b : ℕ) → h ≤ t → Lower τ t h a �
 lower-drop τ t h a b k g d m =
     record { less = omega (arith, g .less); clear = λ x l o. d .clear x l (omega arith) }
 
+-- the sieve went r ticks back
+pub lower-sift : (τ : TaskSet) (t h r : ℕ) → Fit τ → 256 ≤ t → h ≤ t → Within 16000000000000 (demand τ t) h → Sieved τ t true (t - h) r → Lower τ t h (t - r)
+lower-sift τ t h r fit m k w g = record {
+  less = omega (arith, g .few, g .past);
+  clear = λ x l o.
+      let y = t - x in
+      let e : t - y ≡ x = omega arith in
+      omega (arith, w .is, g .clear y (omega (arith, g .few)), ap (demand τ) e, given-back τ fit t y (omega arith));
+}
+
+pub sift-room : (τ : TaskSet) (t s r : ℕ) → 256 ≤ t → Sieved τ t true s r → r ≤ t
+sift-room τ t s r m g = omega (arith, g .few)
+
 pub lower-high : (τ : TaskSet) (t h a : ℕ) → h ≤ t → t ≤ 1000000 → Lower τ t h a → a ≤ 1000000
 lower-high τ t h a k m g = omega (arith, g .less)
 
-pub ruleset lower-laws = (lower-next, lower-drop, lower-high)
+pub ruleset lower-laws = (lower-next, lower-drop, lower-sift, sift-room, lower-high)

@@ -15,12 +15,13 @@ use borrow.Author.Tests.{eq-eqb, ne-eqb, le-leb, lt-leb, lt-ltb, le-ltb, eqb-fal
 use Rattle.bounded.specs.Tests.{both, gate, gate-on, gate-off}
 use Rattle.bounded.specs.Sum.{sumTo, sum-le, sum-add, sum-mul, sum-start, sum-next}
 use Rattle.bounded.specs.Quotient.{ceilDiv, ceil-after, ceil-mono}
-use Rattle.edf.specs.Demand.{TaskSet, rowRequest, request}
+use Rattle.edf.specs.Demand.{TaskSet, rowRequest, request, request-mono}
 use Rattle.table.specs.declared.inverse.Prepared.{Prepared}
 use Rattle.table.specs.declared.leap.Filling.{Filling}
-use Rattle.table.specs.Rows.{horizon, Fit}
+use Rattle.table.specs.Rows.{horizon, Fit, fit-lawful}
 use Rattle.table.specs.Bound.{Within, product-fits}
 use Rattle.table.specs.Request.{quotient-small, ask-is}
+use Rattle.table.specs.Sieve.{Sieved, given-forth}
 use Rattle.table.specs.Inverse.{whole, inverseOf, inverse-under, inverse-some, Ready, Tame, tame-of}
 
 -- shares of time are counted in parts of 2 ^ 32
@@ -296,4 +297,29 @@ further-next τ r n = record { more = omega arith; leap = inl refl }
 pub further-leap : (τ : TaskSet) (r n a b : ℕ) → Further τ r n a → Leap τ r b → a < b → Further τ r n b
 further-leap τ r n a b g l m = record { more = omega (arith, g .more); leap = inr l }
 
-pub ruleset further-laws = (further-next, further-leap)
+-- the sieve went m ticks on
+pub further-sift : (τ : TaskSet) (r n m : ℕ) → Fit τ → r < n → Within 16000000000000 (request τ r) n → Sieved τ r false (n - r - 1) m → Further τ r n (r + m)
+further-sift τ r n m fit l w g = record {
+  more = omega (arith, g .past);
+  leap = inr (record {
+    under = λ q h e. dite (decLe (r + m) q) (λ o. o)
+        (λ o. let k = q - r in
+        let s : r + k ≡ q = omega arith in
+        absurd (omega (arith, w .is, g .clear k (omega arith), ap (request τ) s, given-forth τ fit r k)));
+    up = λ h b.
+        let k = m - 1 in
+        omega (
+          arith,
+          w .is,
+          g .past,
+          g .clear k (omega (arith, g .past)),
+          given-forth τ fit r k,
+          request-mono τ (fit-lawful τ fit) (r + k) (r + m) (omega arith),
+        );
+  });
+}
+
+pub sift-fits : (τ : TaskSet) (r s m : ℕ) → r ≤ horizon → Sieved τ r false s m → Fits w64 (r + m)
+sift-fits τ r s m h g = record { fits = omega (arith, g .few) }
+
+pub ruleset further-laws = (further-next, further-leap, further-sift, sift-fits)

@@ -3,6 +3,7 @@ pub mod Bound
 pub mod Inverse
 pub mod Request
 pub mod Demand
+pub mod Sieve
 pub mod Budgets
 pub mod Leap
 pub mod Busy

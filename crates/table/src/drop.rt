@@ -1,9 +1,10 @@
 // An upper bound on every exceeded tick up to t, from the rows' utilisation (docs/SPECIFICATION.md §3.1): where the search
 // would take many short steps, it goes on below it.
 ghost use mathlib.Core.Path.{_≡_};
-ghost use Prim.Native.Nat.{_+_, _-_, _*_, _≤_};
+ghost use Prim.Native.Nat.{_+_, _-_, _*_, _≤_, _<_};
 ghost use lib.Dec.{ltb};
 ghost use Rattle.edf.specs.Jobs.{jobsBy};
+ghost use Rattle.edf.specs.Demand.{demand};
 ghost use Rattle.table.specs.Rows.{tasksOf, Fit};
 ghost use Rattle.table.specs.Bound.{Within};
 ghost use Rattle.table.specs.Inverse.{Inverses, Tame};
@@ -13,6 +14,7 @@ use super::demand::owe;
 use super::inverse::Prepared;
 use super::inverse::prepare;
 use super::rows::count;
+use super::sieve::sieve;
 
 // Rows with a deadline after some tick, counted by their shares of time, in parts of 2 to the 32nd and rounded up, and by
 // what they are ahead by, since their deadlines come before their periods' ends; and what is due of the others.
@@ -144,15 +146,34 @@ fn drops(words: &[u32], inverses: &[u64; 16], t: u64, h: u64, u: u64) -> u64
     at
 }
 
-// Where the search goes on below t, whose demand h is no more than t: below h, and at the 16th sum and every 64th from
-// there on at the bound if that is lower. Internal: `assess` tests the rows first.
+// The same by the sieve: the ticks back from t as long as the slack t − h lasts.
+fn sift(words: &[u32], inverses: &[u64; 16], t: u64, h: u64) -> u64
+    requires { ⌜ Fit (tasksOf (now words)) × Inverses (tasksOf (now words)) (now inverses) × (256 ≤ t) × (t ≤ 1000000) × (h ≤ t) × (t - h < 256) × Within 16000000000000 (demand (tasksOf (now words)) t) h ⌝ }
+    ensures { λ r. ⌜ Lower (tasksOf (now (words .entry))) t h r ⌝ }
+{
+    let s = t - h;
+    t - sieve(words, inverses, t, true, s)
+}
+
+// Where the search goes on below t, whose demand h is no more than t: below h. From the 16th sum on, at every 16th at the
+// bound if that is lower, and where h is close to t by the sieve, which costs as much as some sums over 16 rows. Internal:
+// `assess` tests the rows first.
 pub fn lower(words: &[u32], inverses: &[u64; 16], t: u64, h: u64, sums: u64) -> u64
-    requires { ⌜ Fit (tasksOf (now words)) × Inverses (tasksOf (now words)) (now inverses) × (t ≤ 1000000) × (h ≤ t) ⌝ }
+    requires { ⌜ Fit (tasksOf (now words)) × Inverses (tasksOf (now words)) (now inverses) × (t ≤ 1000000) × (h ≤ t) × Within 16000000000000 (demand (tasksOf (now words)) t) h ⌝ }
     ensures { λ r. ⌜ Lower (tasksOf (now (words .entry))) t h r ⌝ }
 {
     let u = less(h, 1);
-    if sums % 64 != 16 {
+    if sums < 16 {
         return u;
     }
-    drops(words, inverses, t, h, u)
+    if sums % 16 == 0 {
+        return drops(words, inverses, t, h, u);
+    }
+    if t < 256 {
+        return u;
+    }
+    if count(words) <= (t - h) as usize {
+        return u;
+    }
+    sift(words, inverses, t, h)
 }

@@ -1,9 +1,10 @@
 // A lower bound on every busy length, from the rows' utilisation (docs/SPECIFICATION.md §2.4): where the iteration would
 // take many short steps, it goes on from here.
 ghost use mathlib.Core.Path.{_≡_};
-ghost use Prim.Native.Nat.{_*_, _≤_, min};
+ghost use Prim.Native.Nat.{_-_, _*_, _≤_, _<_, min};
 ghost use lib.Dec.{ltb};
 ghost use Rattle.bounded.specs.Quotient.{ceilDiv};
+ghost use Rattle.edf.specs.Demand.{request};
 ghost use Rattle.table.specs.Rows.{tasksOf, Fit};
 ghost use Rattle.table.specs.Bound.{Within};
 ghost use Rattle.table.specs.Inverse.{Inverses, Tame};
@@ -13,6 +14,7 @@ use super::inverse::prepare;
 use super::request::ask;
 use super::request::ceiling;
 use super::rows::count;
+use super::sieve::sieve;
 
 // Rows that recur, counted by their shares of time, in parts of 2 to the 32nd and rounded down; and what the others ask for.
 struct Filling {
@@ -120,14 +122,30 @@ fn leaps(words: &[u32], inverses: &[u64; 16], r: u64, next: u64) -> u64
     at
 }
 
-// Where the iteration goes on after r, whose request is next: there, and at the 16th sum and every 64th from there on at
-// the bound if that is further. Internal: `assess` tests the rows first.
-pub fn further(words: &[u32], inverses: &[u64; 16], r: u64, next: u64, sums: u64) -> u64
-    requires { ⌜ Fit (tasksOf (now words)) × Inverses (tasksOf (now words)) (now inverses) × (1 ≤ r) × (r ≤ 1000000) ⌝ }
+// The same by the sieve: the ticks from r on as long as the request stays above.
+fn sift(words: &[u32], inverses: &[u64; 16], r: u64, next: u64) -> u64
+    requires { ⌜ Fit (tasksOf (now words)) × Inverses (tasksOf (now words)) (now inverses) × (r ≤ 1000000) × (r < next) × (next - r ≤ 256) × Within 16000000000000 (request (tasksOf (now words)) r) next ⌝ }
     ensures { λ x. ⌜ Further (tasksOf (now (words .entry))) r next x ⌝ }
 {
-    if sums % 64 != 16 {
+    let s = next - r - 1;
+    r + sieve(words, inverses, r, false, s)
+}
+
+// Where the iteration goes on after r, whose request is next: there. From the 16th sum on, at every 16th at the bound if that
+// is further, and where next is close to r by the sieve, which costs as much as some sums over 16 rows. Internal: `assess`
+// tests the rows first.
+pub fn further(words: &[u32], inverses: &[u64; 16], r: u64, next: u64, sums: u64) -> u64
+    requires { ⌜ Fit (tasksOf (now words)) × Inverses (tasksOf (now words)) (now inverses) × (1 ≤ r) × (r ≤ 1000000) × (r < next) × Within 16000000000000 (request (tasksOf (now words)) r) next ⌝ }
+    ensures { λ x. ⌜ Further (tasksOf (now (words .entry))) r next x ⌝ }
+{
+    if sums < 16 {
         return next;
     }
-    leaps(words, inverses, r, next)
+    if sums % 16 == 0 {
+        return leaps(words, inverses, r, next);
+    }
+    if count(words) < (next - r) as usize {
+        return next;
+    }
+    sift(words, inverses, r, next)
 }

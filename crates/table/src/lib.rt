@@ -16,6 +16,7 @@ pub mod overload;
 mod request;
 pub mod rows;
 mod settle;
+mod sieve;
 
 // The two kinds of an admitted table, and the four refusals (docs/SPECIFICATION.md §3; `shownOf` gives their numbers).
 pub enum Verdict {

@@ -13,5 +13,30 @@ leaps-requires c κs = search needs
 returns-2 : tie.Need-returns-2
 returns-2 c = search needs
 
+count-requires : tie.Need-count-requires
+count-requires c κs = search needs
+
+sub-if3 : tie.Need-sub-if3
+sub-if3 c = search needs
+
+returns-3 : tie.Need-returns-3
+returns-3 c = search (needs, further-laws)
+
+sift-requires : tie.Need-sift-requires
+sift-requires c κs = search needs
+
+returns-4 : tie.Need-returns-4
+returns-4 c = search needs
+
 pub further-spec : {M : Type 1} → statement M
-further-spec = tie.close (tie.spec returns leaps-requires returns-2)
+further-spec =
+    tie.close
+    (tie.spec
+    returns
+    leaps-requires
+    returns-2
+    count-requires
+    sub-if3
+    returns-3
+    sift-requires
+    returns-4)

@@ -1,0 +1,411 @@
+-- 256 ticks of demand or request at once: each row marks the ticks that its jobs fall on, and the sum over the marks follows
+-- the slack (docs/SPECIFICATION.md §2.4, §3.1). Assumes nothing.
+use Prim.Native.Nat.{ℕ, zero, suc, _+_, _-_, _*_, _/_, _≤_, _<_}
+use mathlib.Core.Path.{_≡_, refl, sym, ap, _∙_}
+use mathlib.Core.Bool.{Bool, true, false, cond}
+use mathlib.Core.List.{List}
+use mathlib.Core.Logic.{dite, inr}
+use native.Mathlib.Omega.{arith}
+use native.Mathlib.Nat.{mul-le-mul, mul-le-mul-left, mul-le-mul-right, div-mul-le-self, lt-of-mul-lt-mul-right}
+use native.Mathlib.Decide.{decLe, decLt}
+use lib.ListN.{length, getD, set, replicate, getD-replicate, length-replicate, length-set, List·getD-eq-default}
+use lib.Seq.{getD-set-same, getD-set-other}
+use mir.Syntax.{w32, w64}
+use mir.Val.{Fits}
+use Rattle.bounded.specs.Quotient.{ceilDiv, ceil-after, ceil-least, ceil-more, ceil-mono, ceil-small}
+use Rattle.bounded.specs.Sum.{sumTo, sum-le, sum-eq, sum-add, sum-zero, sum-eq-at, sum-term, sum-upto, sum-next}
+use Rattle.edf.specs.Jobs.{jobsBy, jobs-after, jobs-mono, jobs-room}
+use Rattle.edf.specs.Demand.{TaskSet, demand, request, request-mono}
+use Rattle.table.specs.declared.inverse.Prepared.{Prepared}
+use Rattle.table.specs.Rows.{Fit, fit-lawful}
+use Rattle.table.specs.Bound.{Within, product-fits}
+use Rattle.table.specs.Inverse.{Ready, Tame, tame-of}
+
+-- how many of the places a, a + T, a + 2 T, .. are below k
+unfoldable pub hits : ℕ → ℕ → ℕ → ℕ
+hits a T k = ceilDiv (k - a) T
+
+-- the ticks up to t since the last deadline that a row can have
+unfoldable pub sinceBy : ℕ → ℕ → ℕ → ℕ
+sinceBy D T t = t + (T - D) - T * jobsBy D T t
+
+-- the ticks from r on until a row begins a period
+unfoldable pub untilBy : ℕ → ℕ → ℕ
+untilBy T r = T * ceilDiv r T - r
+
+abbrev pub placeBy : ℕ → ℕ → ℕ → Bool → ℕ
+placeBy D T t back = cond back (sinceBy D T t) (untilBy T t)
+
+-- what the first n rows give on the k ticks from t on
+unfoldable pub givenTo : TaskSet → ℕ → Bool → ℕ → ℕ → ℕ
+givenTo τ t back k n = sumTo (λ i. τ .C i * hits (placeBy (τ .D i) (τ .T i) t back) (τ .T i) k) n
+
+-- what is marked on the first k places
+unfoldable pub markedTo : List ℕ → ℕ → ℕ
+markedTo w k = sumTo (λ i. getD w i 0) k
+
+-- ---- the places of one row
+
+module _ (a T : ℕ) (h : 1 ≤ T) where
+  pub hits-after : (k : ℕ) → k ≤ a + hits a T k * T
+  unfolding hits
+  hits-after k = omega (arith, ceil-after (k - a) T h)
+
+  pub hits-least : (k m : ℕ) → k ≤ a + m * T → hits a T k ≤ m
+  unfolding hits
+  hits-least k m l = ceil-least (k - a) T m h (omega arith)
+
+  pub hits-more : (k m : ℕ) → a + m * T < k → m < hits a T k
+  unfolding hits
+  hits-more k m l = ceil-more (k - a) T m h (omega arith)
+
+  pub hits-before : (k m : ℕ) → m < hits a T k → a + m * T < k
+  hits-before k m l =
+      dite (decLt (a + m * T) k) (λ p. p) (λ p. absurd (omega (arith, hits-least k m (omega arith))))
+
+  pub hits-first : hits a T a ≡ 0
+  hits-first = omega (arith, hits-least a 0 (omega arith))
+
+  pub hits-few : (k : ℕ) → hits a T k ≤ k
+  hits-few k = hits-least k k (omega (arith, mul-le-mul-left {m = 1} {n = T} k h))
+
+  -- after a place x that is one of them, the next is x + T
+  module _ (x : ℕ) (e : x ≡ a + hits a T x * T) where
+    pub hits-next : (k : ℕ) → x < k → k ≤ x + T → hits a T k ≡ hits a T x + 1
+    hits-next k l m = omega (arith, hits-least k (hits a T x + 1) (omega arith), hits-more k (hits a T x) (omega arith))
+
+    pub hits-place : x + T ≡ a + hits a T (x + T) * T
+    hits-place = rw (hits-next (x + T) (omega arith) (omega arith)) (omega arith)
+
+-- ---- what a row's places count: deadlines passed on the way back, and periods begun on the way forth
+
+module _ (D T : ℕ) (d : 1 ≤ D) (l : D ≤ T) where
+  module _ (t k : ℕ) (within : k ≤ t) where
+    pub since-hits : jobsBy D T (t - k) + hits (sinceBy D T t) T k ≡ jobsBy D T t
+    unfolding sinceBy
+    since-hits = go (hits a T k) refl
+      where
+        a : ℕ
+        a = sinceBy D T t
+
+        j : ℕ
+        j = jobsBy D T t
+
+        i : ℕ
+        i = jobsBy D T (t - k)
+
+        from : a + j * T ≡ t + T - D
+        from = omega (arith, jobs-room D T t (omega arith) l)
+
+        few : (h : ℕ) → hits a T k ≡ h → j ≤ i + h
+        few h e =
+            let last : k ≤ a + h * T = rw (sym e) (hits-after a T (omega arith) k) in
+            let m : j < i + h + 1 =
+            lt-of-mul-lt-mul-right T (omega (arith, from, last, jobs-after D T (t - k) (omega arith))) in
+            omega arith
+
+        go : (h : ℕ) → hits a T k ≡ h → i + hits a T k ≡ j
+        go zero e = omega (arith, few zero e, jobs-mono D T (t - k) t (omega arith) (omega arith))
+        go (suc m) e =
+            let last : a + m * T < k = hits-before a T (omega arith) k m (omega arith) in
+            let n : i + m < j =
+            lt-of-mul-lt-mul-right T (omega (arith, from, last, jobs-room D T (t - k) (omega arith) l)) in
+            omega (arith, few (suc m) e)
+
+  pub until-hits : (r k : ℕ) → ceilDiv (r + k) T ≡ ceilDiv r T + hits (untilBy T r) T k
+  unfolding untilBy
+  until-hits r k = go (hits a T k) refl
+    where
+      a : ℕ
+      a = untilBy T r
+
+      c : ℕ
+      c = ceilDiv r T
+
+      from : a + r ≡ c * T
+      from = omega (arith, ceil-after r T (omega arith))
+
+      few : (h : ℕ) → hits a T k ≡ h → ceilDiv (r + k) T ≤ c + h
+      few h e =
+          let last : k ≤ a + h * T = rw (sym e) (hits-after a T (omega arith) k) in
+          ceil-least (r + k) T (c + h) (omega arith) (omega (arith, from, last))
+
+      go : (h : ℕ) → hits a T k ≡ h → ceilDiv (r + k) T ≡ c + hits a T k
+      go zero e = omega (arith, few zero e, ceil-mono r (r + k) T (omega arith) (omega arith))
+      go (suc m) e =
+          let last : a + m * T < k = hits-before a T (omega arith) k m (omega arith) in
+          omega (arith, few (suc m) e, ceil-more (r + k) T (c + m) (omega arith) (omega (arith, from, last)))
+
+-- ---- all rows
+
+times : (c a b d : ℕ) → a + b ≡ d → c * a + c * b ≡ c * d
+times c a b d e = omega (arith, ap (λ (z : ℕ). c * z) e)
+
+module _ (τ : TaskSet) (fit : Fit τ) where
+  pub given-back : (t k : ℕ) → k ≤ t → demand τ (t - k) + givenTo τ t true k (τ .rows) ≡ demand τ t
+  unfolding demand givenTo
+  given-back t k l =
+      sym (sum-add (λ i. τ .C i * jobsBy (τ .D i) (τ .T i) (t - k)) (λ i. τ .C i * hits (placeBy (τ .D i) (τ .T i) t true) (τ .T i) k) (τ .rows))
+      ∙ sum-eq _ _ (τ .rows)
+      (λ i o. let u = fit .row i o in
+      times (τ .C i) _ _ _ (since-hits (τ .D i) (τ .T i) (omega arith) (omega arith) t k l))
+
+  pub given-forth : (r k : ℕ) → request τ (r + k) ≡ request τ r + givenTo τ r false k (τ .rows)
+  unfolding request givenTo
+  given-forth r k =
+      sum-eq _ _ (τ .rows)
+      (λ i o. let u = fit .row i o in
+      sym (times (τ .C i) _ _ _ (sym (until-hits (τ .D i) (τ .T i) (omega arith) (omega arith) r k))))
+      ∙ sum-add (λ i. τ .C i * ceilDiv r (τ .T i)) (λ i. τ .C i * hits (placeBy (τ .D i) (τ .T i) r false) (τ .T i) k) (τ .rows)
+
+-- ---- the loop that marks one row: the places below x are done
+
+pub record Markable (v : List ℕ) (a T c : ℕ) : Type 0 where
+  pub long : length v ≡ 256
+  pub some : 1 ≤ T
+  pub apart : T ≤ 1000000
+  pub room : markedTo v 256 + 256 * c ≤ 4096000000
+
+pub record Marked (v w : List ℕ) (a T c : ℕ) : Type 0 where
+  pub long : length w ≡ 256
+  pub are : (k : ℕ) → k ≤ 256 → markedTo w k ≡ markedTo v k + c * hits a T k
+
+pub record Marking (v w : List ℕ) (a T c x : ℕ) : Type 0 where
+  pub long : length w ≡ 256
+  pub place : x ≡ a + hits a T x * T
+  pub done : (k : ℕ) → k ≤ x → k ≤ 256 → markedTo w k ≡ markedTo v k + c * hits a T k
+  pub rest : (k : ℕ) → x < k → k ≤ 256 → markedTo w k ≡ markedTo v k + c * hits a T x
+
+-- a place of w has b: the sum up to k has it too, from there on
+module _ (w : List ℕ) (x b : ℕ) where
+  set-before : (k : ℕ) → k ≤ x → markedTo (set w x b) k ≡ markedTo w k
+  unfolding markedTo
+  set-before k l = sum-eq _ _ k (λ i o. getD-set-other w x i b 0 (λ e. omega arith))
+
+  set-after : (k : ℕ) → x < k → x < length w → markedTo (set w x b) k + getD w x 0 ≡ markedTo w k + b
+  unfolding markedTo
+  set-after k l o =
+      sum-eq-at (λ i. getD (set w x b) i 0) (λ i. getD w i 0) k x l (λ i p ne. getD-set-other w x i b 0 ne)
+      ∙ ap (λ (z : ℕ). markedTo w k + z) (getD-set-same w x b 0 o)
+
+  marked-term : (k : ℕ) → x < k → getD w x 0 ≤ markedTo w k
+  unfolding markedTo
+  marked-term k l = sum-term (λ i. getD w i 0) k x l
+
+module _ (v : List ℕ) (a T c : ℕ) (m : Markable v a T c) where
+  pub marking-start : Marking v v a T c a
+  marking-start = record {
+    long = m .long;
+    place = rw (hits-first a T (m .some)) (omega arith);
+    done = λ k l h. let z = hits-least a T (m .some) k 0 (omega arith) in
+        let e : hits a T k ≡ 0 = omega arith in rw e (omega arith);
+    rest = λ k l h. rw (hits-first a T (m .some)) (omega arith);
+  }
+
+  module _ (w : List ℕ) (x : ℕ) (g : Marking v w a T c x) (l : x < 256) where
+    pub marking-at : x < length w
+    marking-at = omega (arith, g .long)
+
+    marking-few : getD w x 0 + c ≤ 4096000000
+    marking-few =
+        omega (
+          arith,
+          marked-term w x 0 256 l,
+          g .rest 256 l (omega arith),
+          m .room,
+          mul-le-mul-left {m = hits a T x + 1} {n = 256} c (omega (arith, hits-few a T (m .some) x)),
+        )
+
+    pub marking-fits : Fits w32 (getD w x 0 + c)
+    marking-fits = record { fits = omega (arith, marking-few) }
+
+    pub marking-next : (y : ℕ) → y ≡ getD w x 0 + c → Marking v (set w x y) a T c (x + T)
+    marking-next y e = record {
+      long = length-set w x y ∙ g .long;
+      place = hits-place a T (m .some) x (g .place);
+      done = λ k o h. dite (decLe k x)
+          (λ p. set-before w x y k p ∙ g .done k p h)
+          (λ p. omega (
+            arith,
+            e,
+            set-after w x y k (omega arith) marking-at,
+            g .rest k (omega arith) h,
+            ap (λ (z : ℕ). c * z) (hits-next a T (m .some) x (g .place) k (omega arith) o),
+          ));
+      rest = λ k o h. omega (
+        arith,
+        e,
+        set-after w x y k (omega arith) marking-at,
+        g .rest k (omega arith) h,
+        ap (λ (z : ℕ). c * z) (hits-next a T (m .some) x (g .place) (x + T) (omega (arith, m .some)) (omega arith)),
+      );
+    }
+
+  pub marking-done : (w : List ℕ) (x : ℕ) → Marking v w a T c x → 256 ≤ x → Marked v w a T c
+  marking-done w x g l = record { long = g .long; are = λ k h. g .done k (omega arith) h }
+
+pub ruleset marking-laws = (marking-start, marking-at, marking-fits, marking-next, marking-done)
+
+-- ---- the loop over the marks: the slack s has lasted k ticks
+
+pub record Bounded (w : List ℕ) : Type 0 where
+  pub long : length w ≡ 256
+  pub room : markedTo w 256 ≤ 4096000000
+
+pub record Lasts (w : List ℕ) (s r : ℕ) : Type 0 where
+  pub few : r ≤ 256
+  pub past : s < r
+  pub clear : (k : ℕ) → k < r → k ≤ s + markedTo w k
+
+pub record Lasting (w : List ℕ) (s k sum : ℕ) : Type 0 where
+  pub few : k ≤ 256
+  pub is : sum ≡ s + markedTo w k
+  pub clear : (x : ℕ) → x < k → x ≤ s + markedTo w x
+
+module _ (w : List ℕ) (s : ℕ) (b : Bounded w) (small : s < 256) where
+  pub lasting-start : Lasting w s 0 s
+  unfolding markedTo sumTo
+  lasting-start = record { few = omega arith; is = omega arith; clear = λ x l. absurd (omega arith) }
+
+  module _ (k sum : ℕ) (g : Lasting w s k sum) where
+    pub lasting-found : k < 256 → sum < k → Lasts w s k
+    lasting-found l h = record { few = g .few; past = omega (arith, g .is); clear = g .clear }
+
+    pub lasting-end : 256 ≤ k → Lasts w s 256
+    lasting-end l = let e : k ≡ 256 = omega (arith, g .few) in
+        record { few = omega arith; past = small; clear = λ x o. g .clear x (omega arith) }
+
+    pub lasting-at : k < 256 → k < length w
+    lasting-at l = omega (arith, b .long)
+
+    module _ (y : ℕ) (l : k < 256) (e : y ≡ getD w k 0) where
+      lasting-sum : sum + y ≡ s + markedTo w (k + 1)
+      unfolding markedTo
+      lasting-sum = omega (arith, g .is, sum-next (λ i. getD w i 0) k (markedTo w k) y refl e)
+
+      pub lasting-fits : Fits w64 (sum + y)
+      unfolding markedTo
+      lasting-fits =
+          record { fits = omega (arith, lasting-sum, b .room, sum-upto (λ i. getD w i 0) (k + 1) 256 (omega arith)) }
+
+      pub lasting-next : k ≤ sum → Lasting w s (k + 1) (sum + y)
+      lasting-next h = record {
+        few = omega arith;
+        is = lasting-sum;
+        clear = λ x o. dite (decLt x k) (λ p. g .clear x p) (λ p. let j : x ≡ k = omega arith in rw j (omega (arith, g .is)));
+      }
+
+pub ruleset lasting-laws = (lasting-start, lasting-found, lasting-end, lasting-at, lasting-fits, lasting-next)
+
+-- ---- the loop over the rows
+
+pub record Sieved (τ : TaskSet) (t : ℕ) (back : Bool) (s r : ℕ) : Type 0 where
+  pub few : r ≤ 256
+  pub past : s < r
+  pub clear : (k : ℕ) → k < r → k ≤ s + givenTo τ t back k (τ .rows)
+
+pub record Sieving (τ : TaskSet) (t : ℕ) (back : Bool) (i : ℕ) (w : List ℕ) : Type 0 where
+  pub long : length w ≡ 256
+  pub are : (k : ℕ) → k ≤ 256 → markedTo w k ≡ givenTo τ t back k i
+  pub room : markedTo w 256 ≤ 256000000 * i
+
+module _ (τ : TaskSet) (fit : Fit τ) (t : ℕ) (back : Bool) where
+  pub sieving-start : Sieving τ t back 0 (replicate 256 0)
+  unfolding markedTo givenTo sumTo
+  sieving-start = record {
+    long = length-replicate {A = ℕ} 256 0;
+    are = λ k h. nothing k;
+    room = omega (arith, nothing 256);
+  }
+    where
+      blank : (i : ℕ) → _≡_ {A = ℕ} (getD (replicate 256 0) i 0) 0
+      blank i =
+          dite (decLt i 256) (λ l. getD-replicate 256 i 0 0 l) (λ l. List·getD-eq-default (replicate 256 0) 0 {n = i} (omega (arith, length-replicate {A = ℕ} 256 0)))
+
+      nothing : (k : ℕ) → markedTo (replicate 256 0) k ≡ 0
+      nothing k = sum-zero _ k (λ i l. blank i)
+
+  module _ (i : ℕ) (w : List ℕ) (g : Sieving τ t back i w) where
+    pub sieving-bounded : (n : ℕ) → i ≤ n → n ≡ τ .rows → Bounded w
+    sieving-bounded n l e = record { long = g .long; room = omega (arith, g .room, fit .few) }
+
+    module _ (k : Prepared) (y : Ready τ i k) where
+      pub sieving-markable : (a T c : ℕ) → i < τ .rows → T ≡ k .period → c ≡ k .run → Markable w a T c
+      sieving-markable a T c l e f =
+          let u = tame-of τ i k y in
+          record {
+            long = g .long;
+            some = omega (arith, u .some, u .apart);
+            apart = omega (arith, u .limit);
+            room = omega (arith, g .room, fit .few, u .run, u .apart, u .limit);
+          }
+
+      pub sieving-next : (v : List ℕ) (a T c : ℕ) → a ≡ placeBy (k .deadline) (k .period) t back → T ≡ k .period → c ≡ k .run → Marked w v a T c → Sieving τ t back (i + 1) v
+      unfolding givenTo
+      sieving-next v a T c d e f m =
+          let u = tame-of τ i k y in
+          let r = y .row in
+          record {
+            long = m .long;
+            are = λ x h.
+                m .are x h
+                ∙ sum-next (λ i. τ .C i * hits (placeBy (τ .D i) (τ .T i) t back) (τ .T i) x) i (markedTo w x) (c * hits a T x) (g .are x h)
+                (rw (d, e, f, r .deadline, r .period, r .run) refl);
+            room = omega (
+              arith,
+              g .room,
+              m .are 256 (omega arith),
+              mul-le-mul {n₁ = c} {m₁ = hits a T 256} {n₂ = 1000000} {m₂ = 256}
+                (omega (arith, u .run, u .apart, u .limit)) (hits-few a T (omega (arith, u .some, u .apart)) 256),
+            );
+          }
+
+  pub sieving-done : (i n s r : ℕ) (w : List ℕ) → Sieving τ t back i w → i ≤ n → n ≤ i → n ≡ τ .rows → Lasts w s r → Sieved τ t back s r
+  sieving-done i n s r w g l h e o =
+      let j : i ≡ τ .rows = omega arith in
+      record {
+        few = o .few;
+        past = o .past;
+        clear = λ k p. let z : markedTo w k ≡ givenTo τ t back k (τ .rows) = g .are k (omega (arith, o .few)) ∙ ap (givenTo τ t back k) j in
+            omega (arith, z, o .clear k p);
+      }
+
+pub run-fits : (k : Prepared) → Tame k → Fits w32 (k .run)
+run-fits k u = record { fits = omega (arith, u .run, u .apart, u .limit) }
+
+pub ruleset sieving-laws = (run-fits, sieving-start, sieving-bounded, sieving-markable, sieving-next, sieving-done, tame-of)
+
+-- ---- one row's place
+
+module _ (k : Prepared) (u : Tame k) (t q : ℕ) (h : t ≤ 1000000) where
+  module _ (w : Within 1000000 (jobsBy (k .deadline) (k .period) t) q) where
+    pub since-fits : Fits w64 (k .period * q)
+    since-fits = product-fits (k .period) q (u .limit) (w .small)
+
+    pub since-room : k .period * q ≤ t + (k .period - k .deadline)
+    since-room =
+        rw (w .is)
+        (omega (arith, u .some, u .apart, jobs-room (k .deadline) (k .period) t (omega (arith, u .some, u .apart)) (u .apart)))
+
+    pub since-is : t + (k .period - k .deadline) - k .period * q ≡ sinceBy (k .deadline) (k .period) t
+    unfolding sinceBy
+    since-is = rw (w .is)
+
+  module _ (e : q ≡ ceilDiv t (k .period)) where
+    pub until-fits : Fits w64 (k .period * q)
+    until-fits = product-fits (k .period) q (u .limit) (omega (arith, e, ceil-small t (k .period) (omega (arith, u .some, u .apart))))
+
+    pub until-room : t ≤ k .period * q
+    until-room = rw e (omega (arith, ceil-after t (k .period) (omega (arith, u .some, u .apart))))
+
+    pub until-is : k .period * q - t ≡ untilBy (k .period) t
+    unfolding untilBy
+    until-is = rw e
+
+pub place-back : (D T t r : ℕ) (b : Bool) → b ≡ true → r ≡ sinceBy D T t → r ≡ placeBy D T t b
+place-back D T t r b e h = rw e h
+
+pub place-forth : (D T t r : ℕ) (b : Bool) → b ≡ false → r ≡ untilBy T t → r ≡ placeBy D T t b
+place-forth D T t r b e h = rw e h
+
+pub ruleset place-laws = (place-back, place-forth, since-fits, since-room, since-is, until-fits, until-room, until-is)

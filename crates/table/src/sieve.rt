@@ -1,0 +1,86 @@
+// 256 ticks at once, where the steps from sum to sum are short: each row marks the ticks that its jobs fall on, and one pass
+// over the marks follows the slack from tick to tick.
+ghost use mathlib.Core.Path.{_≡_};
+ghost use mathlib.Core.Bool.{true};
+ghost use Prim.Native.Nat.{_≤_, _<_};
+ghost use lib.ListN.{length};
+ghost use Rattle.table.specs.Rows.{tasksOf, Fit};
+ghost use Rattle.table.specs.Inverse.{Inverses, Tame};
+ghost use Rattle.table.specs.Sieve.{sinceBy, untilBy, placeBy, Markable, Marked, Bounded, Lasts, Sieved};
+use super::demand::jobs_by;
+use super::inverse::Prepared;
+use super::inverse::prepare;
+use super::request::ceiling;
+use super::rows::count;
+use super::rows::wide;
+
+// The ticks up to t since the last deadline that the row k can have.
+fn since(k: Prepared, t: u64) -> u64
+    requires { ⌜ Tame k × (t ≤ 1000000) ⌝ }
+    ensures { λ r. ⌜ r ≡ sinceBy (k .deadline) (k .period) t ⌝ }
+{
+    t + (k.period - k.deadline) - k.period * jobs_by(k.deadline, k.period, k.inverse, t)
+}
+
+// The ticks from r on until the row k begins a period.
+fn until(k: Prepared, r: u64) -> u64
+    requires { ⌜ Tame k × (r ≤ 1000000) ⌝ }
+    ensures { λ x. ⌜ x ≡ untilBy (k .period) r ⌝ }
+{
+    k.period * ceiling(r, k.period, k.inverse) - r
+}
+
+// How far the row k's first mark is from the tick `at`, back or forth.
+fn place(k: Prepared, at: u64, back: bool) -> u64
+    requires { ⌜ Tame k × (at ≤ 1000000) ⌝ }
+    ensures { λ r. ⌜ r ≡ placeBy (k .deadline) (k .period) at back ⌝ }
+{
+    if back { since(k, at) } else { until(k, at) }
+}
+
+// Adds c at the place a and at every stride-th place after it.
+fn mark(marks: &mut [u32], a: usize, stride: usize, c: u32)
+    requires { ⌜ Markable (now marks) a stride c ⌝ }
+    ensures { λ _. ⌜ Marked (now (marks .entry)) (now (marks .exit)) a stride c ⌝ }
+{
+    let mut x = a;
+    while x < 256 {
+        marks[x] = marks[x] + c;
+        x = x + stride;
+    }
+}
+
+// How many ticks the slack s lasts, up to 256: each takes one of it, and then adds what is marked there.
+fn lasts(marks: &[u32], s: u64) -> u64
+    requires { ⌜ Bounded (now marks) × (s < 256) ⌝ }
+    ensures { λ r. ⌜ Lasts (now (marks .entry)) s r ⌝ }
+{
+    let mut sum = s;
+    let mut k: usize = 0;
+    while k < 256 {
+        if sum < (k as u64) {
+            return k as u64;
+        }
+        sum = sum + wide(marks[k]);
+        k = k + 1;
+    }
+    256
+}
+
+// How many ticks from `at` on, back or forth and up to 256, the slack s lasts where each job gives its row's C. Internal:
+// `assess` tests the rows first.
+pub fn sieve(words: &[u32], inverses: &[u64; 16], at: u64, back: bool, s: u64) -> u64
+    requires { ⌜ Fit (tasksOf (now words)) × Inverses (tasksOf (now words)) (now inverses) × (at ≤ 1000000) × (s < 256) ⌝ }
+    ensures { λ r. ⌜ Sieved (tasksOf (now (words .entry))) at back s r ⌝ }
+{
+    let n = count(words);
+    let mut marks = [0u32; 256];
+    let mut i: usize = 0;
+    while i < n {
+        let k = prepare(words, inverses, i);
+        let a = place(k, at, back);
+        mark(&mut marks, a as usize, k.period as usize, k.run as u32);
+        i = i + 1;
+    }
+    lasts(&marks, s)
+}
