@@ -1,23 +1,23 @@
 -- 256 ticks of demand or request at once: each row marks the ticks that its jobs fall on, and the sum over the marks follows
 -- the slack (docs/SPECIFICATION.md §2.4, §3.1). Assumes nothing.
-use Prim.Native.Nat.{ℕ, zero, suc, _+_, _-_, _*_, _/_, _≤_, _<_}
+use Prim.Native.Nat.{ℕ, zero, suc, _+_, _-_, _*_, _≤_, _<_}
 use mathlib.Core.Path.{_≡_, refl, sym, ap, _∙_}
 use mathlib.Core.Bool.{Bool, true, false, cond}
 use mathlib.Core.List.{List}
-use mathlib.Core.Logic.{dite, inr}
+use mathlib.Core.Logic.{dite}
 use native.Mathlib.Omega.{arith}
-use native.Mathlib.Nat.{mul-le-mul, mul-le-mul-left, mul-le-mul-right, div-mul-le-self, lt-of-mul-lt-mul-right}
+use native.Mathlib.Nat.{mul-le-mul, mul-le-mul-left}
 use native.Mathlib.Decide.{decLe, decLt}
 use lib.ListN.{length, getD, set, replicate, getD-replicate, length-replicate, length-set, List·getD-eq-default}
 use lib.Seq.{getD-set-same, getD-set-other}
 use mir.Syntax.{w32, w64}
 use mir.Val.{Fits}
 use Rattle.bounded.specs.Quotient.{ceilDiv, ceil-after, ceil-least, ceil-more, ceil-mono, ceil-small}
-use Rattle.bounded.specs.Sum.{sumTo, sum-le, sum-eq, sum-add, sum-zero, sum-eq-at, sum-term, sum-upto, sum-next}
+use Rattle.bounded.specs.Sum.{sumTo, sum-eq, sum-add, sum-zero, sum-eq-at, sum-term, sum-upto, sum-next}
 use Rattle.edf.specs.Jobs.{jobsBy, jobs-after, jobs-mono, jobs-room}
-use Rattle.edf.specs.Demand.{TaskSet, demand, request, request-mono}
+use Rattle.edf.specs.Demand.{TaskSet, demand, request}
 use Rattle.table.specs.declared.inverse.Prepared.{Prepared}
-use Rattle.table.specs.Rows.{Fit, fit-lawful}
+use Rattle.table.specs.Rows.{Fit}
 use Rattle.table.specs.Bound.{Within, product-fits}
 use Rattle.table.specs.Inverse.{Ready, Tame, tame-of}
 
@@ -47,99 +47,99 @@ markedTo w k = sumTo (λ i. getD w i 0) k
 -- ---- the places of one row
 
 module _ (a T : ℕ) (h : 1 ≤ T) where
-  pub hits-after : (k : ℕ) → k ≤ a + hits a T k * T
-  unfolding hits
-  hits-after k = omega (arith, ceil-after (k - a) T h)
-
-  pub hits-least : (k m : ℕ) → k ≤ a + m * T → hits a T k ≤ m
+  hits-least : (k m : ℕ) → k ≤ a + m * T → hits a T k ≤ m
   unfolding hits
   hits-least k m l = ceil-least (k - a) T m h (omega arith)
 
-  pub hits-more : (k m : ℕ) → a + m * T < k → m < hits a T k
+  hits-more : (k m : ℕ) → a + m * T < k → m < hits a T k
   unfolding hits
   hits-more k m l = ceil-more (k - a) T m h (omega arith)
 
-  pub hits-before : (k m : ℕ) → m < hits a T k → a + m * T < k
-  hits-before k m l =
-      dite (decLt (a + m * T) k) (λ p. p) (λ p. absurd (omega (arith, hits-least k m (omega arith))))
+  hits-is : (k m : ℕ) → k ≤ a + m * T → ((n : ℕ) → n + 1 ≡ m → a + n * T < k) → hits a T k ≡ m
+  hits-is k zero l f = omega (arith, hits-least k 0 l)
+  hits-is k (suc n) l f = omega (arith, hits-least k (suc n) l, hits-more k n (f n (omega arith)))
 
-  pub hits-first : hits a T a ≡ 0
+  hits-first : hits a T a ≡ 0
   hits-first = omega (arith, hits-least a 0 (omega arith))
 
-  pub hits-few : (k : ℕ) → hits a T k ≤ k
+  hits-few : (k : ℕ) → hits a T k ≤ k
   hits-few k = hits-least k k (omega (arith, mul-le-mul-left {m = 1} {n = T} k h))
 
   -- after a place x that is one of them, the next is x + T
   module _ (x : ℕ) (e : x ≡ a + hits a T x * T) where
-    pub hits-next : (k : ℕ) → x < k → k ≤ x + T → hits a T k ≡ hits a T x + 1
+    hits-next : (k : ℕ) → x < k → k ≤ x + T → hits a T k ≡ hits a T x + 1
     hits-next k l m = omega (arith, hits-least k (hits a T x + 1) (omega arith), hits-more k (hits a T x) (omega arith))
 
-    pub hits-place : x + T ≡ a + hits a T (x + T) * T
+    hits-place : x + T ≡ a + hits a T (x + T) * T
     hits-place = rw (hits-next (x + T) (omega arith) (omega arith)) (omega arith)
 
 -- ---- what a row's places count: deadlines passed on the way back, and periods begun on the way forth
 
+times : (c a b d : ℕ) → a + b ≡ d → c * a + c * b ≡ c * d
+times c a b d e = omega (arith, ap (λ (z : ℕ). c * z) e)
+
 module _ (D T : ℕ) (d : 1 ≤ D) (l : D ≤ T) where
-  module _ (t k : ℕ) (within : k ≤ t) where
-    pub since-hits : jobsBy D T (t - k) + hits (sinceBy D T t) T k ≡ jobsBy D T t
-    unfolding sinceBy
-    since-hits = go (hits a T k) refl
-      where
-        a : ℕ
-        a = sinceBy D T t
-
-        j : ℕ
-        j = jobsBy D T t
-
-        i : ℕ
-        i = jobsBy D T (t - k)
-
-        from : a + j * T ≡ t + T - D
-        from = omega (arith, jobs-room D T t (omega arith) l)
-
-        few : (h : ℕ) → hits a T k ≡ h → j ≤ i + h
-        few h e =
-            let last : k ≤ a + h * T = rw (sym e) (hits-after a T (omega arith) k) in
-            let m : j < i + h + 1 =
-            lt-of-mul-lt-mul-right T (omega (arith, from, last, jobs-after D T (t - k) (omega arith))) in
-            omega arith
-
-        go : (h : ℕ) → hits a T k ≡ h → i + hits a T k ≡ j
-        go zero e = omega (arith, few zero e, jobs-mono D T (t - k) t (omega arith) (omega arith))
-        go (suc m) e =
-            let last : a + m * T < k = hits-before a T (omega arith) k m (omega arith) in
-            let n : i + m < j =
-            lt-of-mul-lt-mul-right T (omega (arith, from, last, jobs-room D T (t - k) (omega arith) l)) in
-            omega (arith, few (suc m) e)
-
-  pub until-hits : (r k : ℕ) → ceilDiv (r + k) T ≡ ceilDiv r T + hits (untilBy T r) T k
-  unfolding untilBy
-  until-hits r k = go (hits a T k) refl
+  since-hits : (t k : ℕ) → k ≤ t → jobsBy D T (t - k) + hits (sinceBy D T t) T k ≡ jobsBy D T t
+  unfolding sinceBy
+  since-hits t k within =
+      omega (
+        arith,
+        passed,
+        hits-is a T (omega arith) k m (omega (arith, first, scaled, jobs-room D T (t - k) (omega arith) l))
+            (λ n e. omega (arith, first, scaled, times T n 1 m e, jobs-after D T (t - k) (omega arith))),
+      )
     where
-      a : ℕ
-      a = untilBy T r
+      j : ℕ
+      j = jobsBy D T t
 
+      i : ℕ
+      i = jobsBy D T (t - k)
+
+      a : ℕ
+      a = sinceBy D T t
+
+      m : ℕ
+      m = j - i
+
+      first : a + T * j ≡ t + T - D
+      first = omega (arith, jobs-room D T t (omega arith) l)
+
+      passed : i + m ≡ j
+      passed = omega (arith, jobs-mono D T (t - k) t (omega arith) (omega arith))
+
+      scaled : T * i + T * m ≡ T * j
+      scaled = times T i m j passed
+
+  until-hits : (r k : ℕ) → ceilDiv r T + hits (untilBy T r) T k ≡ ceilDiv (r + k) T
+  unfolding untilBy
+  until-hits r k =
+      omega (
+        arith,
+        begun,
+        hits-is a T (omega arith) k m (omega (arith, first, scaled, ceil-after (r + k) T (omega arith)))
+            (λ n e. dite (decLt (a + n * T) k) (λ p. p)
+            (λ p. absurd (omega (arith, begun, ceil-least (r + k) T (c + n) (omega arith) (omega (arith, first)))))),
+      )
+    where
       c : ℕ
       c = ceilDiv r T
 
-      from : a + r ≡ c * T
-      from = omega (arith, ceil-after r T (omega arith))
+      a : ℕ
+      a = untilBy T r
 
-      few : (h : ℕ) → hits a T k ≡ h → ceilDiv (r + k) T ≤ c + h
-      few h e =
-          let last : k ≤ a + h * T = rw (sym e) (hits-after a T (omega arith) k) in
-          ceil-least (r + k) T (c + h) (omega arith) (omega (arith, from, last))
+      m : ℕ
+      m = ceilDiv (r + k) T - c
 
-      go : (h : ℕ) → hits a T k ≡ h → ceilDiv (r + k) T ≡ c + hits a T k
-      go zero e = omega (arith, few zero e, ceil-mono r (r + k) T (omega arith) (omega arith))
-      go (suc m) e =
-          let last : a + m * T < k = hits-before a T (omega arith) k m (omega arith) in
-          omega (arith, few (suc m) e, ceil-more (r + k) T (c + m) (omega arith) (omega (arith, from, last)))
+      first : a + r ≡ T * c
+      first = omega (arith, ceil-after r T (omega arith))
+
+      begun : c + m ≡ ceilDiv (r + k) T
+      begun = omega (arith, ceil-mono r (r + k) T (omega arith) (omega arith))
+
+      scaled : T * c + T * m ≡ T * ceilDiv (r + k) T
+      scaled = times T c m _ begun
 
 -- ---- all rows
-
-times : (c a b d : ℕ) → a + b ≡ d → c * a + c * b ≡ c * d
-times c a b d e = omega (arith, ap (λ (z : ℕ). c * z) e)
 
 module _ (τ : TaskSet) (fit : Fit τ) where
   pub given-back : (t k : ℕ) → k ≤ t → demand τ (t - k) + givenTo τ t true k (τ .rows) ≡ demand τ t
@@ -155,12 +155,12 @@ module _ (τ : TaskSet) (fit : Fit τ) where
   given-forth r k =
       sum-eq _ _ (τ .rows)
       (λ i o. let u = fit .row i o in
-      sym (times (τ .C i) _ _ _ (sym (until-hits (τ .D i) (τ .T i) (omega arith) (omega arith) r k))))
+      sym (times (τ .C i) _ _ _ (until-hits (τ .D i) (τ .T i) (omega arith) (omega arith) r k)))
       ∙ sum-add (λ i. τ .C i * ceilDiv r (τ .T i)) (λ i. τ .C i * hits (placeBy (τ .D i) (τ .T i) r false) (τ .T i) k) (τ .rows)
 
 -- ---- the loop that marks one row: the places below x are done
 
-pub record Markable (v : List ℕ) (a T c : ℕ) : Type 0 where
+pub record Markable (v : List ℕ) (T c : ℕ) : Type 0 where
   pub long : length v ≡ 256
   pub some : 1 ≤ T
   pub apart : T ≤ 1000000
@@ -192,7 +192,7 @@ module _ (w : List ℕ) (x b : ℕ) where
   unfolding markedTo
   marked-term k l = sum-term (λ i. getD w i 0) k x l
 
-module _ (v : List ℕ) (a T c : ℕ) (m : Markable v a T c) where
+module _ (v : List ℕ) (a T c : ℕ) (m : Markable v T c) where
   pub marking-start : Marking v v a T c a
   marking-start = record {
     long = m .long;
@@ -330,8 +330,8 @@ module _ (τ : TaskSet) (fit : Fit τ) (t : ℕ) (back : Bool) where
     sieving-bounded n l e = record { long = g .long; room = omega (arith, g .room, fit .few) }
 
     module _ (k : Prepared) (y : Ready τ i k) where
-      pub sieving-markable : (a T c : ℕ) → i < τ .rows → T ≡ k .period → c ≡ k .run → Markable w a T c
-      sieving-markable a T c l e f =
+      pub sieving-markable : i < τ .rows → Markable w (k .period) (k .run)
+      sieving-markable l =
           let u = tame-of τ i k y in
           record {
             long = g .long;
@@ -340,23 +340,23 @@ module _ (τ : TaskSet) (fit : Fit τ) (t : ℕ) (back : Bool) where
             room = omega (arith, g .room, fit .few, u .run, u .apart, u .limit);
           }
 
-      pub sieving-next : (v : List ℕ) (a T c : ℕ) → a ≡ placeBy (k .deadline) (k .period) t back → T ≡ k .period → c ≡ k .run → Marked w v a T c → Sieving τ t back (i + 1) v
+      pub sieving-next : (v : List ℕ) (a : ℕ) → a ≡ placeBy (k .deadline) (k .period) t back → Marked w v a (k .period) (k .run) → Sieving τ t back (i + 1) v
       unfolding givenTo
-      sieving-next v a T c d e f m =
+      sieving-next v a e m =
           let u = tame-of τ i k y in
           let r = y .row in
           record {
             long = m .long;
             are = λ x h.
                 m .are x h
-                ∙ sum-next (λ i. τ .C i * hits (placeBy (τ .D i) (τ .T i) t back) (τ .T i) x) i (markedTo w x) (c * hits a T x) (g .are x h)
-                (rw (d, e, f, r .deadline, r .period, r .run) refl);
+                ∙ sum-next (λ i. τ .C i * hits (placeBy (τ .D i) (τ .T i) t back) (τ .T i) x) i (markedTo w x) (k .run * hits a (k .period) x) (g .are x h)
+                (rw (e, r .deadline, r .period, r .run) refl);
             room = omega (
               arith,
               g .room,
               m .are 256 (omega arith),
-              mul-le-mul {n₁ = c} {m₁ = hits a T 256} {n₂ = 1000000} {m₂ = 256}
-                (omega (arith, u .run, u .apart, u .limit)) (hits-few a T (omega (arith, u .some, u .apart)) 256),
+              mul-le-mul {n₁ = k .run} {m₁ = hits a (k .period) 256} {n₂ = 1000000} {m₂ = 256}
+                  (omega (arith, u .run, u .apart, u .limit)) (hits-few a (k .period) (omega (arith, u .some, u .apart)) 256),
             );
           }
 
@@ -402,10 +402,11 @@ module _ (k : Prepared) (u : Tame k) (t q : ℕ) (h : t ≤ 1000000) where
     unfolding untilBy
     until-is = rw e
 
-pub place-back : (D T t r : ℕ) (b : Bool) → b ≡ true → r ≡ sinceBy D T t → r ≡ placeBy D T t b
-place-back D T t r b e h = rw e h
+module _ (D T t r : ℕ) (b : Bool) where
+  pub place-back : b ≡ true → r ≡ sinceBy D T t → r ≡ placeBy D T t b
+  place-back e h = rw e h
 
-pub place-forth : (D T t r : ℕ) (b : Bool) → b ≡ false → r ≡ untilBy T t → r ≡ placeBy D T t b
-place-forth D T t r b e h = rw e h
+  pub place-forth : b ≡ false → r ≡ untilBy T t → r ≡ placeBy D T t b
+  place-forth e h = rw e h
 
 pub ruleset place-laws = (place-back, place-forth, since-fits, since-room, since-is, until-fits, until-room, until-is)

@@ -155,9 +155,9 @@ fn sift(words: &[u32], inverses: &[u64; 16], t: u64, h: u64) -> u64
     t - sieve(words, inverses, t, true, s)
 }
 
-// Where the search goes on below t, whose demand h is no more than t: below h. From the 16th sum on, at every 16th at the
-// bound if that is lower, and where h is close to t by the sieve, which costs as much as some sums over 16 rows. Internal:
-// `assess` tests the rows first.
+// Where the search goes on below t, whose demand h is no more than t: below h. From the 16th sum on also at the bound if that
+// is lower, at every 64th sum, and by the sieve where h is fewer ticks below t than there are rows: 256 ticks of it cost
+// less than the sums of so short steps. Internal: `assess` tests the rows first.
 pub fn lower(words: &[u32], inverses: &[u64; 16], t: u64, h: u64, sums: u64) -> u64
     requires { ⌜ Fit (tasksOf (now words)) × Inverses (tasksOf (now words)) (now inverses) × (t ≤ 1000000) × (h ≤ t) × Within 16000000000000 (demand (tasksOf (now words)) t) h ⌝ }
     ensures { λ r. ⌜ Lower (tasksOf (now (words .entry))) t h r ⌝ }
@@ -166,7 +166,7 @@ pub fn lower(words: &[u32], inverses: &[u64; 16], t: u64, h: u64, sums: u64) -> 
     if sums < 16 {
         return u;
     }
-    if sums % 16 == 0 {
+    if sums % 64 == 16 {
         return drops(words, inverses, t, h, u);
     }
     if t < 256 {

@@ -124,16 +124,16 @@ fn leaps(words: &[u32], inverses: &[u64; 16], r: u64, next: u64) -> u64
 
 // The same by the sieve: the ticks from r on as long as the request stays above.
 fn sift(words: &[u32], inverses: &[u64; 16], r: u64, next: u64) -> u64
-    requires { ⌜ Fit (tasksOf (now words)) × Inverses (tasksOf (now words)) (now inverses) × (r ≤ 1000000) × (r < next) × (next - r ≤ 256) × Within 16000000000000 (request (tasksOf (now words)) r) next ⌝ }
+    requires { ⌜ Fit (tasksOf (now words)) × Inverses (tasksOf (now words)) (now inverses) × (r ≤ 1000000) × (r < next) × (next - r < 256) × Within 16000000000000 (request (tasksOf (now words)) r) next ⌝ }
     ensures { λ x. ⌜ Further (tasksOf (now (words .entry))) r next x ⌝ }
 {
     let s = next - r - 1;
     r + sieve(words, inverses, r, false, s)
 }
 
-// Where the iteration goes on after r, whose request is next: there. From the 16th sum on, at every 16th at the bound if that
-// is further, and where next is close to r by the sieve, which costs as much as some sums over 16 rows. Internal: `assess`
-// tests the rows first.
+// Where the iteration goes on after r, whose request is next: there. From the 16th sum on also at the bound if that is
+// further, at every 64th sum, and by the sieve where next is no more ticks above r than there are rows: 256 ticks of it cost
+// less than the sums of so short steps. Internal: `assess` tests the rows first.
 pub fn further(words: &[u32], inverses: &[u64; 16], r: u64, next: u64, sums: u64) -> u64
     requires { ⌜ Fit (tasksOf (now words)) × Inverses (tasksOf (now words)) (now inverses) × (1 ≤ r) × (r ≤ 1000000) × (r < next) × Within 16000000000000 (request (tasksOf (now words)) r) next ⌝ }
     ensures { λ x. ⌜ Further (tasksOf (now (words .entry))) r next x ⌝ }
@@ -141,7 +141,7 @@ pub fn further(words: &[u32], inverses: &[u64; 16], r: u64, next: u64, sums: u64
     if sums < 16 {
         return next;
     }
-    if sums % 16 == 0 {
+    if sums % 64 == 16 {
         return leaps(words, inverses, r, next);
     }
     if count(words) < (next - r) as usize {

@@ -1,9 +1,7 @@
 // 256 ticks at once, where the steps from sum to sum are short: each row marks the ticks that its jobs fall on, and one pass
 // over the marks follows the slack from tick to tick.
 ghost use mathlib.Core.Path.{_≡_};
-ghost use mathlib.Core.Bool.{true};
 ghost use Prim.Native.Nat.{_≤_, _<_};
-ghost use lib.ListN.{length};
 ghost use Rattle.table.specs.Rows.{tasksOf, Fit};
 ghost use Rattle.table.specs.Inverse.{Inverses, Tame};
 ghost use Rattle.table.specs.Sieve.{sinceBy, untilBy, placeBy, Markable, Marked, Bounded, Lasts, Sieved};
@@ -40,7 +38,7 @@ fn place(k: Prepared, at: u64, back: bool) -> u64
 
 // Adds c at the place a and at every stride-th place after it.
 fn mark(marks: &mut [u32], a: usize, stride: usize, c: u32)
-    requires { ⌜ Markable (now marks) a stride c ⌝ }
+    requires { ⌜ Markable (now marks) stride c ⌝ }
     ensures { λ _. ⌜ Marked (now (marks .entry)) (now (marks .exit)) a stride c ⌝ }
 {
     let mut x = a;
