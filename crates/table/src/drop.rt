@@ -155,9 +155,9 @@ fn sift(words: &[u32], inverses: &[u64; 16], t: u64, h: u64) -> u64
     t - sieve(words, inverses, t, true, s)
 }
 
-// Where the search goes on below t, whose demand h is no more than t: below h. From the 16th sum on also at the bound if that
-// is lower, at every 64th sum, and by the sieve where h is fewer ticks below t than there are rows: 256 ticks of it cost
-// less than the sums of so short steps. Internal: `assess` tests the rows first.
+// Where the search goes on below t, whose demand h is no more than t: below h. From the 16th sum on at the bound if that is
+// lower, at every 64th sum; and where h is fewer ticks below t than there are rows, at every 16th, and else by the sieve:
+// 256 ticks of it cost less than the sums of so short steps. Internal: `assess` tests the rows first.
 pub fn lower(words: &[u32], inverses: &[u64; 16], t: u64, h: u64, sums: u64) -> u64
     requires { ⌜ Fit (tasksOf (now words)) × Inverses (tasksOf (now words)) (now inverses) × (t ≤ 1000000) × (h ≤ t) × Within 16000000000000 (demand (tasksOf (now words)) t) h ⌝ }
     ensures { λ r. ⌜ Lower (tasksOf (now (words .entry))) t h r ⌝ }
@@ -169,10 +169,13 @@ pub fn lower(words: &[u32], inverses: &[u64; 16], t: u64, h: u64, sums: u64) -> 
     if sums % 64 == 16 {
         return drops(words, inverses, t, h, u);
     }
-    if t < 256 {
+    if count(words) <= (t - h) as usize {
         return u;
     }
-    if count(words) <= (t - h) as usize {
+    if sums % 16 == 0 {
+        return drops(words, inverses, t, h, u);
+    }
+    if t < 256 {
         return u;
     }
     sift(words, inverses, t, h)

@@ -131,9 +131,9 @@ fn sift(words: &[u32], inverses: &[u64; 16], r: u64, next: u64) -> u64
     r + sieve(words, inverses, r, false, s)
 }
 
-// Where the iteration goes on after r, whose request is next: there. From the 16th sum on also at the bound if that is
-// further, at every 64th sum, and by the sieve where next is no more ticks above r than there are rows: 256 ticks of it cost
-// less than the sums of so short steps. Internal: `assess` tests the rows first.
+// Where the iteration goes on after r, whose request is next: there. From the 16th sum on at the bound if that is further, at
+// every 64th sum; and where next is no more ticks above r than there are rows, at every 16th, and else by the sieve: 256
+// ticks of it cost less than the sums of so short steps. Internal: `assess` tests the rows first.
 pub fn further(words: &[u32], inverses: &[u64; 16], r: u64, next: u64, sums: u64) -> u64
     requires { ⌜ Fit (tasksOf (now words)) × Inverses (tasksOf (now words)) (now inverses) × (1 ≤ r) × (r ≤ 1000000) × (r < next) × Within 16000000000000 (request (tasksOf (now words)) r) next ⌝ }
     ensures { λ x. ⌜ Further (tasksOf (now (words .entry))) r next x ⌝ }
@@ -146,6 +146,9 @@ pub fn further(words: &[u32], inverses: &[u64; 16], r: u64, next: u64, sums: u64
     }
     if count(words) < (next - r) as usize {
         return next;
+    }
+    if sums % 16 == 0 {
+        return leaps(words, inverses, r, next);
     }
     sift(words, inverses, r, next)
 }

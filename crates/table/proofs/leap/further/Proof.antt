@@ -22,11 +22,17 @@ sub-if3 c = search needs
 returns-3 : tie.Need-returns-3
 returns-3 c = search (needs, further-laws)
 
-sift-requires : tie.Need-sift-requires
-sift-requires c κs = search needs
+leaps-requires-2 : tie.Need-leaps-requires-2
+leaps-requires-2 c κs = search needs
 
 returns-4 : tie.Need-returns-4
 returns-4 c = search needs
+
+sift-requires : tie.Need-sift-requires
+sift-requires c κs = search needs
+
+returns-5 : tie.Need-returns-5
+returns-5 c = search needs
 
 pub further-spec : {M : Type 1} → statement M
 further-spec =
@@ -38,5 +44,7 @@ further-spec =
     count-requires
     sub-if3
     returns-3
+    leaps-requires-2
+    returns-4
     sift-requires
-    returns-4)
+    returns-5)
