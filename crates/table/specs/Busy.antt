@@ -45,14 +45,17 @@ module _ (τ : TaskSet) (fit : Fit τ) where
         omega (arith, w .is))
         (λ (b : Leap τ r y). b .up l h) (g .leap)
 
+    pub busy-above : (x ≡ r → ⊥) → r < x
+    busy-above ne = climb-more (request τ) horizon r x (t .climbs) (w .is) ne
+
     pub busy-next : (y : ℕ) → (x ≡ r → ⊥) → Further τ r x y → y ≤ horizon → Turn τ y (n + 1)
     busy-next y ne g h = record {
       climbs = climb-far (request τ) horizon r x y (t .climbs) (w .is) (g .more) (far y g) (rises y g) h;
-      counted = omega (arith, climb-more (request τ) horizon r x (t .climbs) (w .is) ne, g .more);
+      counted = omega (arith, t .counted, busy-above ne, g .more);
     }
 
     pub busy-more : (y : ℕ) → (x ≡ r → ⊥) → Further τ r x y → r < y
-    busy-more y ne g = omega (arith, climb-more (request τ) horizon r x (t .climbs) (w .is) ne, g .more)
+    busy-more y ne g = omega (arith, busy-above ne, g .more)
 
     pub busy-found : x ≡ r → Settled τ (record { length = r; sums = n + 1 })
     unfolding busyLength
@@ -68,4 +71,4 @@ module _ (τ : TaskSet) (fit : Fit τ) where
       sums = omega (arith, t .climbs .high);
     }
 
-pub ruleset busy-laws = (busy-start, busy-next, busy-more, busy-found, busy-passed)
+pub ruleset busy-laws = (busy-start, busy-above, busy-next, busy-more, busy-found, busy-passed)

@@ -44,6 +44,21 @@ givenTo τ t back k n = sumTo (λ i. τ .C i * hits (placeBy (τ .D i) (τ .T i)
 unfoldable pub markedTo : List ℕ → ℕ → ℕ
 markedTo w k = sumTo (λ i. getD w i 0) k
 
+-- if n is 16, the step is one that the sieve can begin with
+pub record Short (step n : ℕ) : Type 0 where
+  pub small : 16 ≤ n → step < 256
+
+pub short-none : (step : ℕ) → Short step 0
+short-none step = record { small = λ l. absurd (omega arith) }
+
+pub short-some : (τ : TaskSet) (step m n : ℕ) → Fit τ → m ≡ τ .rows → step < m → Short step n
+short-some τ step m n fit e l = record { small = λ h. omega (arith, fit .few) }
+
+pub short-small : (step n : ℕ) → Short step n → 16 ≤ n → step < 256
+short-small step n s l = s .small l
+
+pub ruleset short-laws = (short-none, short-some)
+
 -- ---- the places of one row
 
 module _ (a T : ℕ) (h : 1 ≤ T) where
@@ -257,45 +272,90 @@ pub record Lasts (w : List ℕ) (s r : ℕ) : Type 0 where
   pub past : s < r
   pub clear : (k : ℕ) → k < r → k ≤ s + markedTo w k
 
-pub record Lasting (w : List ℕ) (s k sum : ℕ) : Type 0 where
-  pub few : k ≤ 256
-  pub is : sum ≡ s + markedTo w k
-  pub clear : (x : ℕ) → x < k → x ≤ s + markedTo w x
+-- of two ticks, the k-th and the next, it lasts r; m is marked on the k-th
+pub data OfTwo (sum k m : ℕ) : ℕ → Type 0 where
+  neither : sum < k → OfTwo sum k m 0
+  first : k ≤ sum → sum + m < k + 1 → OfTwo sum k m 1
+  second : k ≤ sum → k < sum + m → OfTwo sum k m 2
+
+module _ (sum k m : ℕ) where
+  pub of-two-more : k < sum → OfTwo sum k m 2
+  of-two-more l = second (omega arith) (omega arith)
+
+  pub of-two-less : sum < k → OfTwo sum k m 0
+  of-two-less l = neither l
+
+  pub of-two-bare : sum ≤ k → k ≤ sum → m ≡ 0 → OfTwo sum k m 1
+  of-two-bare l h e = first h (omega arith)
+
+  pub of-two-marked : k ≤ sum → (m ≡ 0 → ⊥) → OfTwo sum k m 2
+  of-two-marked h ne = second h (omega arith)
+
+pub ruleset of-two-cases = (of-two-more, of-two-less, of-two-bare, of-two-marked)
+
+-- it has lasted 2 j ticks
+pub record Lasting (w : List ℕ) (s j sum : ℕ) : Type 0 where
+  pub few : j ≤ 128
+  pub is : sum ≡ s + markedTo w (2 * j)
+  pub clear : (x : ℕ) → x < 2 * j → x ≤ s + markedTo w x
 
 module _ (w : List ℕ) (s : ℕ) (b : Bounded w) (small : s < 256) where
   pub lasting-start : Lasting w s 0 s
   unfolding markedTo sumTo
   lasting-start = record { few = omega arith; is = omega arith; clear = λ x l. absurd (omega arith) }
 
-  module _ (k sum : ℕ) (g : Lasting w s k sum) where
-    pub lasting-found : k < 256 → sum < k → Lasts w s k
-    lasting-found l h = record { few = g .few; past = omega (arith, g .is); clear = g .clear }
+  module _ (j sum : ℕ) (g : Lasting w s j sum) where
+    pub lasting-end : 128 ≤ j → Lasts w s 256
+    lasting-end l = record { few = omega arith; past = small; clear = λ x o. g .clear x (omega arith) }
 
-    pub lasting-end : 256 ≤ k → Lasts w s 256
-    lasting-end l = let e : k ≡ 256 = omega (arith, g .few) in
-        record { few = omega arith; past = small; clear = λ x o. g .clear x (omega arith) }
+    module _ (l : j < 128) where
+      pub lasting-at : 2 * j < length w
+      lasting-at = omega (arith, b .long)
 
-    pub lasting-at : k < 256 → k < length w
-    lasting-at l = omega (arith, b .long)
+      pub lasting-after : 2 * j + 1 < length w
+      lasting-after = omega (arith, b .long)
 
-    module _ (y : ℕ) (l : k < 256) (e : y ≡ getD w k 0) where
-      lasting-sum : sum + y ≡ s + markedTo w (k + 1)
-      unfolding markedTo
-      lasting-sum = omega (arith, g .is, sum-next (λ i. getD w i 0) k (markedTo w k) y refl e)
+      module _ (m : ℕ) (e : m ≡ getD w (2 * j) 0) where
+        lasting-first : s + markedTo w (2 * j + 1) ≡ sum + m
+        unfolding markedTo
+        lasting-first = omega (arith, g .is, sum-next (λ i. getD w i 0) (2 * j) (markedTo w (2 * j)) m refl e)
 
-      pub lasting-fits : Fits w64 (sum + y)
-      unfolding markedTo
-      lasting-fits =
-          record { fits = omega (arith, lasting-sum, b .room, sum-upto (λ i. getD w i 0) (k + 1) 256 (omega arith)) }
+        clear-to : (x : ℕ) → x < 2 * j + 1 → 2 * j ≤ sum → x ≤ s + markedTo w x
+        clear-to x o h = dite (decLt x (2 * j)) (λ p. g .clear x p) (λ p. let q : x ≡ 2 * j = omega arith in rw q (omega (arith, g .is)))
 
-      pub lasting-next : k ≤ sum → Lasting w s (k + 1) (sum + y)
-      lasting-next h = record {
-        few = omega arith;
-        is = lasting-sum;
-        clear = λ x o. dite (decLt x k) (λ p. g .clear x p) (λ p. let j : x ≡ k = omega arith in rw j (omega (arith, g .is)));
-      }
+        pub lasting-found : (r : ℕ) → OfTwo sum (2 * j) m r → r < 2 → Lasts w s (2 * j + r)
+        lasting-found r (neither h) o =
+            record { few = omega arith; past = omega (arith, g .is); clear = λ x p. g .clear x (omega arith) }
+        lasting-found r (first h i) o =
+            record { few = omega arith; past = omega (arith, g .is); clear = λ x p. clear-to x p h }
+        lasting-found r (second h i) o = absurd (omega arith)
 
-pub ruleset lasting-laws = (lasting-start, lasting-found, lasting-end, lasting-at, lasting-fits, lasting-next)
+        module _ (n : ℕ) (f : n ≡ getD w (2 * j + 1) 0) where
+          lasting-sum : sum + (m + n) ≡ s + markedTo w (2 * (j + 1))
+          unfolding markedTo
+          lasting-sum =
+              let q : 2 * j + 1 + 1 ≡ 2 * (j + 1) = omega arith in
+              rw (sym q) (omega (arith, lasting-first, sum-next (λ i. getD w i 0) (2 * j + 1) (markedTo w (2 * j + 1)) n refl f))
+
+          pub lasting-fits : Fits w64 (sum + (m + n))
+          unfolding markedTo
+          lasting-fits =
+              record { fits = omega (arith, lasting-sum, b .room, sum-upto (λ i. getD w i 0) (2 * (j + 1)) 256 (omega arith)) }
+
+          pub lasting-small : Fits w64 (m + n)
+          lasting-small = record { fits = omega (arith, lasting-fits .fits) }
+
+          pub lasting-next : (r : ℕ) → OfTwo sum (2 * j) m r → 2 ≤ r → Lasting w s (j + 1) (sum + (m + n))
+          lasting-next r (neither h) o = absurd (omega arith)
+          lasting-next r (first h i) o = absurd (omega arith)
+          lasting-next r (second h i) o = record {
+            few = omega arith;
+            is = lasting-sum;
+            clear = λ x p. dite (decLt x (2 * j + 1)) (λ q. clear-to x q h)
+                (λ q. let z : x ≡ 2 * j + 1 = omega arith in rw z (omega (arith, lasting-first)));
+          }
+
+pub ruleset lasting-laws = (lasting-start, lasting-found, lasting-end, lasting-at, lasting-after, lasting-fits, lasting-small, lasting-next)
 
 -- ---- the loop over the rows
 

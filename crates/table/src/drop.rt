@@ -8,6 +8,7 @@ ghost use Rattle.edf.specs.Demand.{demand};
 ghost use Rattle.table.specs.Rows.{tasksOf, Fit};
 ghost use Rattle.table.specs.Bound.{Within};
 ghost use Rattle.table.specs.Inverse.{Inverses, Tame};
+ghost use Rattle.table.specs.Sieve.{Short};
 ghost use Rattle.table.specs.Drop.{riseBy, LightHolding, holdingBy, Held, dropBy, Drop, Lower};
 use super::demand::jobs_by;
 use super::demand::owe;
@@ -155,21 +156,18 @@ fn sift(words: &[u32], inverses: &[u64; 16], t: u64, h: u64) -> u64
     t - sieve(words, inverses, t, true, s)
 }
 
-// Where the search goes on below t, whose demand h is no more than t: below h. From the 16th sum on at the bound if that is
-// lower, at every 64th sum; and where h is fewer ticks below t than there are rows, at every 16th, and else by the sieve:
-// 256 ticks of it cost less than the sums of so short steps. Internal: `assess` tests the rows first.
-pub fn lower(words: &[u32], inverses: &[u64; 16], t: u64, h: u64, sums: u64) -> u64
-    requires { ⌜ Fit (tasksOf (now words)) × Inverses (tasksOf (now words)) (now inverses) × (t ≤ 1000000) × (h ≤ t) × Within 16000000000000 (demand (tasksOf (now words)) t) h ⌝ }
+// Where the search goes on below t, whose demand h is no more than t: below h. At the 16th sum and every 64th from there on,
+// at the bound if that is lower. After 16 short steps in a row at every 16th, and else by the sieve. Internal: `assess` tests
+// the rows first.
+pub fn lower(words: &[u32], inverses: &[u64; 16], t: u64, h: u64, sums: u64, short: u64) -> u64
+    requires { ⌜ Fit (tasksOf (now words)) × Inverses (tasksOf (now words)) (now inverses) × (t ≤ 1000000) × (h ≤ t) × Short (t - h) short × Within 16000000000000 (demand (tasksOf (now words)) t) h ⌝ }
     ensures { λ r. ⌜ Lower (tasksOf (now (words .entry))) t h r ⌝ }
 {
     let u = less(h, 1);
-    if sums < 16 {
-        return u;
-    }
     if sums % 64 == 16 {
         return drops(words, inverses, t, h, u);
     }
-    if count(words) <= (t - h) as usize {
+    if short < 16 {
         return u;
     }
     if sums % 16 == 0 {

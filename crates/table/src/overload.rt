@@ -5,6 +5,7 @@ ghost use Rattle.table.specs.Inverse.{Inverses};
 ghost use Rattle.table.specs.Overload.{Searched};
 use super::demand::demand_at;
 use super::drop::lower;
+use super::sieve::short_steps;
 
 // A tick and the demand there, which exceeds it; 0 and 0 where no tick of the range has one. And how many times the
 // demand was summed up to find it.
@@ -21,6 +22,7 @@ pub fn search(words: &[u32], inverses: &[u64; 16], end: u64) -> Found
 {
     let mut t = end;
     let mut sums: u64 = 0;
+    let mut short: u64 = 0;
     while 0 < t {
         let h = demand_at(words, inverses, t);
         sums = sums + 1;
@@ -31,7 +33,8 @@ pub fn search(words: &[u32], inverses: &[u64; 16], end: u64) -> Found
                 sums,
             };
         }
-        t = lower(words, inverses, t, h, sums);
+        short = short_steps(words, t - h, short);
+        t = lower(words, inverses, t, h, sums, short);
     }
     Found {
         at: 0,

@@ -6,6 +6,7 @@ ghost use Rattle.table.specs.Inverse.{Inverses};
 ghost use Rattle.table.specs.Settle.{Climbed, Settles};
 use super::leap::further;
 use super::request::requested;
+use super::sieve::short_steps;
 
 // The least such stretch from `from` to `end`; 1,000,001 where there is none.
 fn climb(words: &[u32], inverses: &[u64; 16], from: u64, end: u64) -> u64
@@ -14,13 +15,15 @@ fn climb(words: &[u32], inverses: &[u64; 16], from: u64, end: u64) -> u64
 {
     let mut r = from;
     let mut sums: u64 = 0;
+    let mut short: u64 = 0;
     while r <= end {
         let next = requested(words, inverses, r);
         sums = sums + 1;
         if next <= r {
             return r;
         }
-        r = further(words, inverses, r, next, sums);
+        short = short_steps(words, next - r, short);
+        r = further(words, inverses, r, next, sums, short);
     }
     1000001
 }

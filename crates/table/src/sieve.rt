@@ -4,13 +4,26 @@ ghost use mathlib.Core.Path.{_≡_};
 ghost use Prim.Native.Nat.{_≤_, _<_};
 ghost use Rattle.table.specs.Rows.{tasksOf, Fit};
 ghost use Rattle.table.specs.Inverse.{Inverses, Tame};
-ghost use Rattle.table.specs.Sieve.{sinceBy, untilBy, placeBy, Markable, Marked, Bounded, Lasts, Sieved};
+ghost use Rattle.table.specs.Sieve.{sinceBy, untilBy, placeBy, Markable, Marked, Bounded, OfTwo, Lasts, Short, Sieved};
 use super::demand::jobs_by;
 use super::inverse::Prepared;
 use super::inverse::prepare;
 use super::request::ceiling;
 use super::rows::count;
 use super::rows::wide;
+
+// How many steps in a row were short, up to 16: fewer ticks than there are rows. A sum over n rows costs about as much as n
+// ticks of the sieve, so after 16 short steps the sieve has become the faster way.
+pub fn short_steps(words: &[u32], step: u64, before: u64) -> u64
+    requires { ⌜ Fit (tasksOf (now words)) ⌝ }
+    ensures { λ r. ⌜ Short step r ⌝ }
+{
+    let n = count(words);
+    if n <= step as usize {
+        return 0;
+    }
+    if before < 16 { before + 1 } else { 16 }
+}
 
 // The ticks up to t since the last deadline that the row k can have.
 fn since(k: Prepared, t: u64) -> u64
@@ -48,19 +61,36 @@ fn mark(marks: &mut [u32], a: usize, stride: usize, c: u32)
     }
 }
 
-// How many ticks the slack s lasts, up to 256: each takes one of it, and then adds what is marked there.
+// How many of two ticks the slack lasts, the k-th and the next, where s and what was marked before are sum, and m is marked on
+// the k-th.
+fn of_two(sum: u64, k: u64, m: u64) -> u64
+    ensures { λ r. ⌜ OfTwo sum k m r ⌝ }
+{
+    if k < sum {
+        return 2;
+    }
+    if sum < k {
+        return 0;
+    }
+    if m == 0 { 1 } else { 2 }
+}
+
+// How many ticks the slack s lasts, up to 256: each takes one of it, and then adds what is marked there. Two at a time, since
+// nearly always both pass by one test.
 fn lasts(marks: &[u32], s: u64) -> u64
     requires { ⌜ Bounded (now marks) × (s < 256) ⌝ }
     ensures { λ r. ⌜ Lasts (now (marks .entry)) s r ⌝ }
 {
     let mut sum = s;
-    let mut k: usize = 0;
-    while k < 256 {
-        if sum < (k as u64) {
-            return k as u64;
+    let mut j: usize = 0;
+    while j < 128 {
+        let m = wide(marks[2 * j]);
+        let two = of_two(sum, (2 * j) as u64, m);
+        if two < 2 {
+            return (2 * j) as u64 + two;
         }
-        sum = sum + wide(marks[k]);
-        k = k + 1;
+        sum = sum + (m + wide(marks[2 * j + 1]));
+        j = j + 1;
     }
     256
 }

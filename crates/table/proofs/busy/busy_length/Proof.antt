@@ -7,10 +7,10 @@ use Rattle.table.proofs.busy.busy_length.Statement.{statement}
 use Rattle.table.proofs.busy.busy_length.Tie as tie
 
 abbrev Inv-loop : tie.InvT-loop
-Inv-loop words inverses r₀ sums₀ r sums = Turn (tasksOf words) r sums
+Inv-loop words inverses r₀ sums₀ short₀ r sums short = Turn (tasksOf words) r sums
 
 abbrev μ-loop : tie.MeasureT-loop
-μ-loop words inverses r₀ sums₀ r sums = 1000000 - r
+μ-loop words inverses r₀ sums₀ short₀ r sums short = 1000000 - r
 
 loop-holds : tie.Need-loop-holds Inv-loop μ-loop
 loop-holds c = search (needs, busy-laws)
@@ -21,8 +21,14 @@ requested-requires c κs = search needs
 add-sums : tie.Need-add-sums Inv-loop μ-loop
 add-sums c = search (needs, busy-laws)
 
+sub-short-steps : tie.Need-sub-short-steps Inv-loop μ-loop
+sub-short-steps c = search (needs, busy-laws)
+
+short-steps-requires : tie.Need-short-steps-requires Inv-loop μ-loop
+short-steps-requires c κs = search needs
+
 further-requires : tie.Need-further-requires Inv-loop μ-loop
-further-requires c κs = search needs
+further-requires c κs = search (needs, busy-laws)
 
 loop-less : tie.Need-loop-less Inv-loop μ-loop
 loop-less c = search needs
@@ -45,6 +51,8 @@ busy-length-spec =
     loop-holds
     requested-requires
     add-sums
+    sub-short-steps
+    short-steps-requires
     further-requires
     loop-less
     loop-again

@@ -6,10 +6,10 @@ use Rattle.table.proofs.overload.search.Statement.{statement}
 use Rattle.table.proofs.overload.search.Tie as tie
 
 abbrev Inv-loop : tie.InvT-loop
-Inv-loop words inverses end t₀ sums₀ t sums = Clear (tasksOf words) end t sums
+Inv-loop words inverses end t₀ sums₀ short₀ t sums short = Clear (tasksOf words) end t sums
 
 abbrev μ-loop : tie.MeasureT-loop
-μ-loop words inverses end t₀ sums₀ t sums = t
+μ-loop words inverses end t₀ sums₀ short₀ t sums short = t
 
 loop-holds : tie.Need-loop-holds Inv-loop μ-loop
 loop-holds c = search (needs, overload-laws)
@@ -22,6 +22,9 @@ add-sums c = search (needs, overload-laws)
 
 returns : tie.Need-returns Inv-loop μ-loop
 returns c = search (needs, overload-laws)
+
+short-steps-requires : tie.Need-short-steps-requires Inv-loop μ-loop
+short-steps-requires c κs = search needs
 
 lower-requires : tie.Need-lower-requires Inv-loop μ-loop
 lower-requires c κs = search needs
@@ -45,6 +48,7 @@ search-spec =
     demand-at-requires
     add-sums
     returns
+    short-steps-requires
     lower-requires
     loop-less
     loop-again

@@ -7,10 +7,10 @@ use Rattle.table.proofs.settle.climb.Statement.{statement}
 use Rattle.table.proofs.settle.climb.Tie as tie
 
 abbrev Inv-loop : tie.InvT-loop
-Inv-loop words inverses from end r₀ sums₀ r sums = Rising (tasksOf words) from r sums
+Inv-loop words inverses from end r₀ sums₀ short₀ r sums short = Rising (tasksOf words) from r sums
 
 abbrev μ-loop : tie.MeasureT-loop
-μ-loop words inverses from end r₀ sums₀ r sums = 1000001 - r
+μ-loop words inverses from end r₀ sums₀ short₀ r sums short = 1000001 - r
 
 loop-holds : tie.Need-loop-holds Inv-loop μ-loop
 loop-holds c = search (needs, rising-laws)
@@ -23,6 +23,12 @@ add-sums c = search (needs, rising-laws)
 
 returns : tie.Need-returns Inv-loop μ-loop
 returns c = search (needs, rising-laws)
+
+sub-short-steps : tie.Need-sub-short-steps Inv-loop μ-loop
+sub-short-steps c = search (needs, rising-laws)
+
+short-steps-requires : tie.Need-short-steps-requires Inv-loop μ-loop
+short-steps-requires c κs = search needs
 
 further-requires : tie.Need-further-requires Inv-loop μ-loop
 further-requires c κs = search needs
@@ -46,6 +52,8 @@ climb-spec =
     requested-requires
     add-sums
     returns
+    sub-short-steps
+    short-steps-requires
     further-requires
     loop-less
     loop-again
