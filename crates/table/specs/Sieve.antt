@@ -48,16 +48,8 @@ markedTo w k = sumTo (λ i. getD w i 0) k
 pub record Short (step n : ℕ) : Type 0 where
   pub small : 16 ≤ n → step < 256
 
-pub short-none : (step : ℕ) → Short step 0
-short-none step = record { small = λ l. absurd (omega arith) }
-
-pub short-some : (τ : TaskSet) (step m n : ℕ) → Fit τ → m ≡ τ .rows → step < m → Short step n
-short-some τ step m n fit e l = record { small = λ h. omega (arith, fit .few) }
-
 pub short-small : (step n : ℕ) → Short step n → 16 ≤ n → step < 256
 short-small step n s l = s .small l
-
-pub ruleset short-laws = (short-none, short-some)
 
 -- ---- the places of one row
 

@@ -5,6 +5,7 @@ ghost use Rattle.table.specs.Inverse.{Inverses};
 ghost use Rattle.table.specs.Busy.{Settled};
 use super::leap::further;
 use super::request::requested;
+use super::rows::count;
 use super::sieve::short_steps;
 
 // The length, 1,000,001 where there is none up to 1,000,000, and how many times the request was summed up to find it.
@@ -19,6 +20,7 @@ pub fn busy_length(words: &[u32], inverses: &[u64; 16]) -> Busy
     requires { ⌜ Fit (tasksOf (now words)) × Inverses (tasksOf (now words)) (now inverses) ⌝ }
     ensures { λ r. ⌜ Settled (tasksOf (now (words .entry))) r ⌝ }
 {
+    let n = count(words);
     let mut r: u64 = 1;
     let mut sums: u64 = 0;
     let mut short: u64 = 0;
@@ -28,7 +30,7 @@ pub fn busy_length(words: &[u32], inverses: &[u64; 16]) -> Busy
         if next == r {
             break r;
         }
-        short = short_steps(words, next - r, short);
+        short = short_steps(n, next - r, short);
         let far = further(words, inverses, r, next, sums, short);
         if 1000000 < far {
             break 1000001;

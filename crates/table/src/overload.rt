@@ -5,6 +5,7 @@ ghost use Rattle.table.specs.Inverse.{Inverses};
 ghost use Rattle.table.specs.Overload.{Searched};
 use super::demand::demand_at;
 use super::drop::lower;
+use super::rows::count;
 use super::sieve::short_steps;
 
 // A tick and the demand there, which exceeds it; 0 and 0 where no tick of the range has one. And how many times the
@@ -20,6 +21,7 @@ pub fn search(words: &[u32], inverses: &[u64; 16], end: u64) -> Found
     requires { ⌜ Fit (tasksOf (now words)) × Inverses (tasksOf (now words)) (now inverses) × (end ≤ 1000000) ⌝ }
     ensures { λ r. ⌜ Searched (tasksOf (now (words .entry))) end r ⌝ }
 {
+    let n = count(words);
     let mut t = end;
     let mut sums: u64 = 0;
     let mut short: u64 = 0;
@@ -33,7 +35,7 @@ pub fn search(words: &[u32], inverses: &[u64; 16], end: u64) -> Found
                 sums,
             };
         }
-        short = short_steps(words, t - h, short);
+        short = short_steps(n, t - h, short);
         t = lower(words, inverses, t, h, sums, short);
     }
     Found {

@@ -6,6 +6,7 @@ ghost use Rattle.table.specs.Inverse.{Inverses};
 ghost use Rattle.table.specs.Settle.{Climbed, Settles};
 use super::leap::further;
 use super::request::requested;
+use super::rows::count;
 use super::sieve::short_steps;
 
 // The least such stretch from `from` to `end`; 1,000,001 where there is none.
@@ -13,6 +14,7 @@ fn climb(words: &[u32], inverses: &[u64; 16], from: u64, end: u64) -> u64
     requires { ⌜ Fit (tasksOf (now words)) × Inverses (tasksOf (now words)) (now inverses) × (1 ≤ from) × (end ≤ 1000000) ⌝ }
     ensures { λ r. ⌜ Climbed (tasksOf (now (words .entry))) from end r ⌝ }
 {
+    let n = count(words);
     let mut r = from;
     let mut sums: u64 = 0;
     let mut short: u64 = 0;
@@ -22,7 +24,7 @@ fn climb(words: &[u32], inverses: &[u64; 16], from: u64, end: u64) -> u64
         if next <= r {
             return r;
         }
-        short = short_steps(words, next - r, short);
+        short = short_steps(n, next - r, short);
         r = further(words, inverses, r, next, sums, short);
     }
     1000001

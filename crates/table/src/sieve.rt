@@ -12,13 +12,12 @@ use super::request::ceiling;
 use super::rows::count;
 use super::rows::wide;
 
-// How many steps in a row were short, up to 16: fewer ticks than there are rows. A sum over n rows costs about as much as n
-// ticks of the sieve, so after 16 short steps the sieve has become the faster way.
-pub fn short_steps(words: &[u32], step: u64, before: u64) -> u64
-    requires { ⌜ Fit (tasksOf (now words)) ⌝ }
+// How many steps in a row were short, up to 16: fewer ticks than there are rows, n. A sum over n rows costs about as much as n
+// ticks of the sieve, so after 16 short steps the sieve would have been the faster way. Internal: no table has more rows.
+pub fn short_steps(n: usize, step: u64, before: u64) -> u64
+    requires { ⌜ n ≤ 16 ⌝ }
     ensures { λ r. ⌜ Short step r ⌝ }
 {
-    let n = count(words);
     if n <= step as usize {
         return 0;
     }

@@ -7,10 +7,13 @@ use Rattle.table.proofs.busy.busy_length.Statement.{statement}
 use Rattle.table.proofs.busy.busy_length.Tie as tie
 
 abbrev Inv-loop : tie.InvT-loop
-Inv-loop words inverses r₀ sums₀ short₀ r sums short = Turn (tasksOf words) r sums
+Inv-loop words inverses n r₀ sums₀ short₀ r sums short = Turn (tasksOf words) r sums
 
 abbrev μ-loop : tie.MeasureT-loop
-μ-loop words inverses r₀ sums₀ short₀ r sums short = 1000000 - r
+μ-loop words inverses n r₀ sums₀ short₀ r sums short = 1000000 - r
+
+count-requires : tie.Need-count-requires Inv-loop μ-loop
+count-requires c κs = search needs
 
 loop-holds : tie.Need-loop-holds Inv-loop μ-loop
 loop-holds c = search (needs, busy-laws)
@@ -48,6 +51,7 @@ busy-length-spec =
     (tie.spec
     Inv-loop
     μ-loop
+    count-requires
     loop-holds
     requested-requires
     add-sums

@@ -6,10 +6,13 @@ use Rattle.table.proofs.overload.search.Statement.{statement}
 use Rattle.table.proofs.overload.search.Tie as tie
 
 abbrev Inv-loop : tie.InvT-loop
-Inv-loop words inverses end t₀ sums₀ short₀ t sums short = Clear (tasksOf words) end t sums
+Inv-loop words inverses end n t₀ sums₀ short₀ t sums short = Clear (tasksOf words) end t sums
 
 abbrev μ-loop : tie.MeasureT-loop
-μ-loop words inverses end t₀ sums₀ short₀ t sums short = t
+μ-loop words inverses end n t₀ sums₀ short₀ t sums short = t
+
+count-requires : tie.Need-count-requires Inv-loop μ-loop
+count-requires c κs = search needs
 
 loop-holds : tie.Need-loop-holds Inv-loop μ-loop
 loop-holds c = search (needs, overload-laws)
@@ -44,6 +47,7 @@ search-spec =
     (tie.spec
     Inv-loop
     μ-loop
+    count-requires
     loop-holds
     demand-at-requires
     add-sums

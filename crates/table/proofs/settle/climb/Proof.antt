@@ -7,10 +7,13 @@ use Rattle.table.proofs.settle.climb.Statement.{statement}
 use Rattle.table.proofs.settle.climb.Tie as tie
 
 abbrev Inv-loop : tie.InvT-loop
-Inv-loop words inverses from end r₀ sums₀ short₀ r sums short = Rising (tasksOf words) from r sums
+Inv-loop words inverses from end n r₀ sums₀ short₀ r sums short = Rising (tasksOf words) from r sums
 
 abbrev μ-loop : tie.MeasureT-loop
-μ-loop words inverses from end r₀ sums₀ short₀ r sums short = 1000001 - r
+μ-loop words inverses from end n r₀ sums₀ short₀ r sums short = 1000001 - r
+
+count-requires : tie.Need-count-requires Inv-loop μ-loop
+count-requires c κs = search needs
 
 loop-holds : tie.Need-loop-holds Inv-loop μ-loop
 loop-holds c = search (needs, rising-laws)
@@ -48,6 +51,7 @@ climb-spec =
     (tie.spec
     Inv-loop
     μ-loop
+    count-requires
     loop-holds
     requested-requires
     add-sums
