@@ -1,5 +1,7 @@
-// 256 ticks at once, where the steps from sum to sum are short: each row marks the ticks that its jobs fall on, and one pass
-// over the marks follows the slack from tick to tick.
+// 256 ticks at once, where the steps from sum to sum are short (a segmented sieve; docs/SPECIFICATION.md §2.4, §3.1). Back
+// from t the slack is t − demand(t): each tick takes one of it, and each deadline passed gives its row's C. Forth from r it is
+// request(r) − r − 1: each tick takes one, and each period begun gives its row's C. So every row marks its C on its ticks, and
+// one pass over the marks follows the slack.
 ghost use mathlib.Core.Path.{_≡_};
 ghost use Prim.Native.Nat.{_≤_, _<_};
 ghost use Rattle.table.specs.Rows.{tasksOf, Fit};
@@ -94,8 +96,7 @@ fn lasts(marks: &[u32], s: u64) -> u64
     256
 }
 
-// How many ticks from `at` on, back or forth and up to 256, the slack s lasts where each job gives its row's C. Internal:
-// `assess` tests the rows first.
+// How many ticks from `at` on, back or forth and up to 256, the slack s lasts. Internal: `assess` tests the rows first.
 pub fn sieve(words: &[u32], inverses: &[u64; 16], at: u64, back: bool, s: u64) -> u64
     requires { ⌜ Fit (tasksOf (now words)) × Inverses (tasksOf (now words)) (now inverses) × (at ≤ 1000000) × (s < 256) ⌝ }
     ensures { λ r. ⌜ Sieved (tasksOf (now (words .entry))) at back s r ⌝ }

@@ -171,6 +171,58 @@ const LONGEST_BUSY_LENGTH: [u32; 12] = [
     60000,
 ];
 
+// 16 short rows that leave less than a millionth of all time, so that steps go some five ticks.
+const SHORT_STEPS: [u32; 48] = [
+    1,
+    21,
+    21,
+    1,
+    11,
+    5,
+    1,
+    16,
+    16,
+    1,
+    14,
+    7,
+    1,
+    9,
+    7,
+    1,
+    21,
+    6,
+    1,
+    30,
+    30,
+    1,
+    21,
+    15,
+    1,
+    22,
+    22,
+    1,
+    12,
+    8,
+    1,
+    13,
+    13,
+    1,
+    17,
+    2,
+    1,
+    14,
+    11,
+    1,
+    22,
+    10,
+    1,
+    21,
+    9,
+    1,
+    17,
+    11,
+];
+
 // The list of §7.
 fn listed() {
     answer(&[1, 2, 2, 500000, 1000000, 1000000]);
@@ -205,8 +257,18 @@ fn hard() {
     answer(&longest);
 }
 
+// Tables that take many short steps; the second is overloaded, since two deadlines differ by a tick.
+fn short_steps() {
+    let mut short = SHORT_STEPS;
+    answer(&short);
+    short[44] = 10;
+    short[47] = 10;
+    answer(&short);
+}
+
 fn main() {
     listed();
     refused();
     hard();
+    short_steps();
 }
