@@ -38,6 +38,9 @@ module _ (k : Prepared) (u : Tame k) (t q : ℕ) (w : Within 1000000 (jobsBy (k 
   pub owe-fits : Fits w64 (k .run * q)
   owe-fits = product-fits (k .run) q (omega arith) (w .small)
 
+  pub jobs-fits : Fits w64 (k .period * q)
+  jobs-fits = product-fits (k .period) q (u .limit) (w .small)
+
   pub owe-is : Within 1000000000000 (k .run * jobsBy (k .deadline) (k .period) t) (k .run * q)
   owe-is = record { is = rw (w .is); small = product-small (k .run) q (omega arith) (w .small) }
 

@@ -19,8 +19,8 @@ use Rattle.edf.specs.Demand.{TaskSet, rowDemand, demand}
 use Rattle.table.specs.declared.inverse.Prepared.{Prepared}
 use Rattle.table.specs.declared.drop.Holding.{Holding}
 use Rattle.table.specs.Rows.{Fit}
-use Rattle.table.specs.Bound.{Within, product-small, product-fits}
-use Rattle.table.specs.Demand.{jobs-small}
+use Rattle.table.specs.Bound.{Within, product-small}
+use Rattle.table.specs.Demand.{jobs-small, jobs-fits}
 use Rattle.table.specs.Inverse.{inverseOf, inverse-over, inverse-under, inverse-more, Ready, Tame, tame-of}
 use Rattle.table.specs.Sieve.{Sieved, given-back}
 use Rattle.table.specs.Leap.{scale}
@@ -221,13 +221,10 @@ module _ (k : Prepared) (u : Tame k) where
     lead-is = record { is = refl; small = lead-small }
 
   module _ (t q : ℕ) (w : Within 1000000 (jobsBy (k .deadline) (k .period) t) q) where
-    pub due-fits : Fits w64 (k .period * q)
-    due-fits = product-fits (k .period) q (u .limit) (w .small)
-
     pub due-is : (b : ℕ) → ltb (b + (k .period - k .deadline)) (k .period * q) ≡ ltb (b + (k .period - k .deadline)) (k .period * jobsBy (k .deadline) (k .period) t)
     due-is b = rw (w .is)
 
-pub ruleset rise-cases = (rise-scaled, rise-fits, rise-is, lead-fits, lead-is, due-fits, due-is)
+pub ruleset rise-cases = (rise-scaled, rise-fits, rise-is, lead-fits, lead-is, jobs-fits, due-is)
 
 module _ (h : Holding) (k : Prepared) (t b x : ℕ) (o : Bool) (e : o ≡ ltb (b + (k .period - k .deadline)) (k .period * jobsBy (k .deadline) (k .period) t)) where
   pub holding-on : (y : ℕ) → o ≡ true → Within 4294968400 (riseBy (k .run) (k .period)) x → Within 5000000000000000 (x * (k .period - k .deadline)) y
@@ -387,10 +384,7 @@ lower-sift τ t h r fit m k w g = record {
       omega (arith, w .is, g .clear y (omega (arith, g .few)), ap (demand τ) e, given-back τ fit t y (omega arith));
 }
 
-pub sift-room : (τ : TaskSet) (t s r : ℕ) → 256 ≤ t → Sieved τ t true s r → r ≤ t
-sift-room τ t s r m g = omega (arith, g .few)
-
 pub lower-high : (τ : TaskSet) (t h a : ℕ) → h ≤ t → t ≤ 1000000 → Lower τ t h a → a ≤ 1000000
 lower-high τ t h a k m g = omega (arith, g .less)
 
-pub ruleset lower-laws = (lower-next, lower-drop, lower-sift, sift-room, lower-high)
+pub ruleset lower-laws = (lower-next, lower-drop, lower-sift, lower-high)

@@ -19,8 +19,8 @@ use Rattle.edf.specs.Demand.{TaskSet, rowRequest, request, request-mono}
 use Rattle.table.specs.declared.inverse.Prepared.{Prepared}
 use Rattle.table.specs.declared.leap.Filling.{Filling}
 use Rattle.table.specs.Rows.{horizon, Fit, fit-lawful}
-use Rattle.table.specs.Bound.{Within, product-fits}
-use Rattle.table.specs.Request.{quotient-small, ask-is}
+use Rattle.table.specs.Bound.{Within}
+use Rattle.table.specs.Request.{periods-fits, ask-is}
 use Rattle.table.specs.Sieve.{Sieved, given-forth}
 use Rattle.table.specs.Inverse.{whole, inverseOf, inverse-under, inverse-some, Ready, Tame, tame-of}
 
@@ -176,13 +176,10 @@ module _ (k : Prepared) (t : Tame k) where
   share-is = record { is = rw (t .inverse); small = omega (arith, share-product, div-mul-le-self (k .run * (k .inverse - 1)) 1024) }
 
   module _ (r q : ℕ) (h : r ≤ horizon) (e : q ≡ ceilDiv r (k .period)) where
-    pub recurs-fits : Fits w64 (k .period * q)
-    recurs-fits = product-fits (k .period) q (t .limit) (quotient-small k t r q h e)
-
     pub recurs-is : (b : ℕ) → ltb (k .period * q) b ≡ ltb (k .period * ceilDiv r (k .period)) b
     recurs-is b = rw e
 
-pub ruleset share-cases = (share-some, share-fits, share-is, recurs-fits, recurs-is)
+pub ruleset share-cases = (share-some, share-fits, share-is, periods-fits, recurs-is)
 
 module _ (f : Filling) (k : Prepared) (r b x : ℕ) (t : Bool) (e : t ≡ ltb (k .period * ceilDiv r (k .period)) b) where
   pub filling-on : t ≡ true → Within 1000000000000 (shareBy (k .run) (k .period)) x
@@ -319,7 +316,4 @@ further-sift τ r n m fit l w g = record {
   });
 }
 
-pub sift-fits : (τ : TaskSet) (r s m : ℕ) → r ≤ horizon → Sieved τ r false s m → Fits w64 (r + m)
-sift-fits τ r s m h g = record { fits = omega (arith, g .few) }
-
-pub ruleset further-laws = (further-next, further-leap, further-sift, sift-fits)
+pub ruleset further-laws = (further-next, further-leap, further-sift)

@@ -18,6 +18,9 @@ module _ (k : Prepared) (t : Tame k) (x q : ℕ) (h : x ≤ horizon) (e : q ≡ 
   pub ask-fits : Fits w64 (k .run * q)
   ask-fits = product-fits (k .run) q (omega arith) quotient-small
 
+  pub periods-fits : Fits w64 (k .period * q)
+  periods-fits = product-fits (k .period) q (t .limit) quotient-small
+
   pub ask-is : Within 1000000000000 (k .run * ceilDiv x (k .period)) (k .run * q)
   ask-is = record { is = rw e; small = product-small (k .run) q (omega arith) quotient-small }
 

@@ -12,14 +12,16 @@ use lib.ListN.{length, getD, set, replicate, getD-replicate, length-replicate, l
 use lib.Seq.{getD-set-same, getD-set-other}
 use mir.Syntax.{w32, w64}
 use mir.Val.{Fits}
-use Rattle.bounded.specs.Quotient.{ceilDiv, ceil-after, ceil-least, ceil-more, ceil-mono, ceil-small}
+use Rattle.bounded.specs.Quotient.{ceilDiv, ceil-after, ceil-least, ceil-more, ceil-mono}
 use Rattle.bounded.specs.Sum.{sumTo, sum-eq, sum-add, sum-zero, sum-eq-at, sum-term, sum-upto, sum-next}
 use Rattle.edf.specs.Jobs.{jobsBy, jobs-after, jobs-mono, jobs-room}
 use Rattle.edf.specs.Demand.{TaskSet, demand, request}
 use Rattle.table.specs.declared.inverse.Prepared.{Prepared}
 use Rattle.table.specs.Rows.{Fit}
-use Rattle.table.specs.Bound.{Within, product-fits}
+use Rattle.table.specs.Bound.{Within}
 use Rattle.table.specs.Inverse.{Ready, Tame, tame-of}
+use Rattle.table.specs.Demand.{jobs-fits}
+use Rattle.table.specs.Request.{periods-fits}
 
 -- how many of the places a, a + T, a + 2 T, .. are below k
 unfoldable pub hits : ℕ → ℕ → ℕ → ℕ
@@ -210,7 +212,7 @@ module _ (v : List ℕ) (a T c : ℕ) (m : Markable v T c) where
   }
 
   module _ (w : List ℕ) (x : ℕ) (g : Marking v w a T c x) (l : x < 256) where
-    pub marking-at : x < length w
+    marking-at : x < length w
     marking-at = omega (arith, g .long)
 
     marking-few : getD w x 0 + c ≤ 4096000000
@@ -251,9 +253,9 @@ module _ (v : List ℕ) (a T c : ℕ) (m : Markable v T c) where
   pub marking-done : (w : List ℕ) (x : ℕ) → Marking v w a T c x → 256 ≤ x → Marked v w a T c
   marking-done w x g l = record { long = g .long; are = λ k h. g .done k (omega arith) h }
 
-pub ruleset marking-laws = (marking-start, marking-at, marking-fits, marking-next, marking-done)
+pub ruleset marking-laws = (marking-start, marking-fits, marking-next, marking-done)
 
--- ---- the loop over the marks: the slack s has lasted k ticks
+-- ---- the loop over the marks: how long the slack s lasts
 
 pub record Bounded (w : List ℕ) : Type 0 where
   pub long : length w ≡ 256
@@ -300,54 +302,44 @@ module _ (w : List ℕ) (s : ℕ) (b : Bounded w) (small : s < 256) where
     pub lasting-end : 128 ≤ j → Lasts w s 256
     lasting-end l = record { few = omega arith; past = small; clear = λ x o. g .clear x (omega arith) }
 
-    module _ (l : j < 128) where
-      pub lasting-at : 2 * j < length w
-      lasting-at = omega (arith, b .long)
+    module _ (l : j < 128) (m : ℕ) (e : m ≡ getD w (2 * j) 0) where
+      lasting-first : s + markedTo w (2 * j + 1) ≡ sum + m
+      unfolding markedTo
+      lasting-first = omega (arith, g .is, sum-next (λ i. getD w i 0) (2 * j) (markedTo w (2 * j)) m refl e)
 
-      pub lasting-after : 2 * j + 1 < length w
-      lasting-after = omega (arith, b .long)
+      clear-to : (x : ℕ) → x < 2 * j + 1 → 2 * j ≤ sum → x ≤ s + markedTo w x
+      clear-to x o h = dite (decLt x (2 * j)) (λ p. g .clear x p) (λ p. let q : x ≡ 2 * j = omega arith in rw q (omega (arith, g .is)))
 
-      module _ (m : ℕ) (e : m ≡ getD w (2 * j) 0) where
-        lasting-first : s + markedTo w (2 * j + 1) ≡ sum + m
+      pub lasting-found : (r : ℕ) → OfTwo sum (2 * j) m r → r < 2 → Lasts w s (2 * j + r)
+      lasting-found r (neither h) o =
+          record { few = omega arith; past = omega (arith, g .is); clear = λ x p. g .clear x (omega arith) }
+      lasting-found r (first h i) o =
+          record { few = omega arith; past = omega (arith, g .is); clear = λ x p. clear-to x p h }
+      lasting-found r (second h i) o = absurd (omega arith)
+
+      module _ (n : ℕ) (f : n ≡ getD w (2 * j + 1) 0) where
+        lasting-sum : sum + (m + n) ≡ s + markedTo w (2 * (j + 1))
         unfolding markedTo
-        lasting-first = omega (arith, g .is, sum-next (λ i. getD w i 0) (2 * j) (markedTo w (2 * j)) m refl e)
+        lasting-sum =
+            let q : 2 * j + 1 + 1 ≡ 2 * (j + 1) = omega arith in
+            rw (sym q) (omega (arith, lasting-first, sum-next (λ i. getD w i 0) (2 * j + 1) (markedTo w (2 * j + 1)) n refl f))
 
-        clear-to : (x : ℕ) → x < 2 * j + 1 → 2 * j ≤ sum → x ≤ s + markedTo w x
-        clear-to x o h = dite (decLt x (2 * j)) (λ p. g .clear x p) (λ p. let q : x ≡ 2 * j = omega arith in rw q (omega (arith, g .is)))
+        pub lasting-fits : Fits w64 (sum + (m + n))
+        unfolding markedTo
+        lasting-fits =
+            record { fits = omega (arith, lasting-sum, b .room, sum-upto (λ i. getD w i 0) (2 * (j + 1)) 256 (omega arith)) }
 
-        pub lasting-found : (r : ℕ) → OfTwo sum (2 * j) m r → r < 2 → Lasts w s (2 * j + r)
-        lasting-found r (neither h) o =
-            record { few = omega arith; past = omega (arith, g .is); clear = λ x p. g .clear x (omega arith) }
-        lasting-found r (first h i) o =
-            record { few = omega arith; past = omega (arith, g .is); clear = λ x p. clear-to x p h }
-        lasting-found r (second h i) o = absurd (omega arith)
+        pub lasting-next : (r : ℕ) → OfTwo sum (2 * j) m r → 2 ≤ r → Lasting w s (j + 1) (sum + (m + n))
+        lasting-next r (neither h) o = absurd (omega arith)
+        lasting-next r (first h i) o = absurd (omega arith)
+        lasting-next r (second h i) o = record {
+          few = omega arith;
+          is = lasting-sum;
+          clear = λ x p. dite (decLt x (2 * j + 1)) (λ q. clear-to x q h)
+              (λ q. let z : x ≡ 2 * j + 1 = omega arith in rw z (omega (arith, lasting-first)));
+        }
 
-        module _ (n : ℕ) (f : n ≡ getD w (2 * j + 1) 0) where
-          lasting-sum : sum + (m + n) ≡ s + markedTo w (2 * (j + 1))
-          unfolding markedTo
-          lasting-sum =
-              let q : 2 * j + 1 + 1 ≡ 2 * (j + 1) = omega arith in
-              rw (sym q) (omega (arith, lasting-first, sum-next (λ i. getD w i 0) (2 * j + 1) (markedTo w (2 * j + 1)) n refl f))
-
-          pub lasting-fits : Fits w64 (sum + (m + n))
-          unfolding markedTo
-          lasting-fits =
-              record { fits = omega (arith, lasting-sum, b .room, sum-upto (λ i. getD w i 0) (2 * (j + 1)) 256 (omega arith)) }
-
-          pub lasting-small : Fits w64 (m + n)
-          lasting-small = record { fits = omega (arith, lasting-fits .fits) }
-
-          pub lasting-next : (r : ℕ) → OfTwo sum (2 * j) m r → 2 ≤ r → Lasting w s (j + 1) (sum + (m + n))
-          lasting-next r (neither h) o = absurd (omega arith)
-          lasting-next r (first h i) o = absurd (omega arith)
-          lasting-next r (second h i) o = record {
-            few = omega arith;
-            is = lasting-sum;
-            clear = λ x p. dite (decLt x (2 * j + 1)) (λ q. clear-to x q h)
-                (λ q. let z : x ≡ 2 * j + 1 = omega arith in rw z (omega (arith, lasting-first)));
-          }
-
-pub ruleset lasting-laws = (lasting-start, lasting-found, lasting-end, lasting-at, lasting-after, lasting-fits, lasting-small, lasting-next)
+pub ruleset lasting-laws = (lasting-start, lasting-found, lasting-end, lasting-fits, lasting-next)
 
 -- ---- the loop over the rows
 
@@ -378,9 +370,6 @@ module _ (τ : TaskSet) (fit : Fit τ) (t : ℕ) (back : Bool) where
       nothing k = sum-zero _ k (λ i l. blank i)
 
   module _ (i : ℕ) (w : List ℕ) (g : Sieving τ t back i w) where
-    pub sieving-bounded : (n : ℕ) → i ≤ n → n ≡ τ .rows → Bounded w
-    sieving-bounded n l e = record { long = g .long; room = omega (arith, g .room, fit .few) }
-
     module _ (k : Prepared) (y : Ready τ i k) where
       pub sieving-markable : i < τ .rows → Markable w (k .period) (k .run)
       sieving-markable l =
@@ -422,18 +411,12 @@ module _ (τ : TaskSet) (fit : Fit τ) (t : ℕ) (back : Bool) where
             omega (arith, z, o .clear k p);
       }
 
-pub run-fits : (k : Prepared) → Tame k → Fits w32 (k .run)
-run-fits k u = record { fits = omega (arith, u .run, u .apart, u .limit) }
-
-pub ruleset sieving-laws = (run-fits, sieving-start, sieving-bounded, sieving-markable, sieving-next, sieving-done, tame-of)
+pub ruleset sieving-laws = (sieving-start, sieving-markable, sieving-next, sieving-done, tame-of)
 
 -- ---- one row's place
 
 module _ (k : Prepared) (u : Tame k) (t q : ℕ) (h : t ≤ 1000000) where
   module _ (w : Within 1000000 (jobsBy (k .deadline) (k .period) t) q) where
-    pub since-fits : Fits w64 (k .period * q)
-    since-fits = product-fits (k .period) q (u .limit) (w .small)
-
     pub since-room : k .period * q ≤ t + (k .period - k .deadline)
     since-room =
         rw (w .is)
@@ -444,9 +427,6 @@ module _ (k : Prepared) (u : Tame k) (t q : ℕ) (h : t ≤ 1000000) where
     since-is = rw (w .is)
 
   module _ (e : q ≡ ceilDiv t (k .period)) where
-    pub until-fits : Fits w64 (k .period * q)
-    until-fits = product-fits (k .period) q (u .limit) (omega (arith, e, ceil-small t (k .period) (omega (arith, u .some, u .apart))))
-
     pub until-room : t ≤ k .period * q
     until-room = rw e (omega (arith, ceil-after t (k .period) (omega (arith, u .some, u .apart))))
 
@@ -461,4 +441,4 @@ module _ (D T t r : ℕ) (b : Bool) where
   pub place-forth : b ≡ false → r ≡ untilBy T t → r ≡ placeBy D T t b
   place-forth e h = rw e h
 
-pub ruleset place-laws = (place-back, place-forth, since-fits, since-room, since-is, until-fits, until-room, until-is)
+pub ruleset place-laws = (place-back, place-forth, jobs-fits, since-room, since-is, periods-fits, until-room, until-is)
