@@ -46,12 +46,13 @@ givenTo τ t back k n = sumTo (λ i. τ .C i * hits (placeBy (τ .D i) (τ .T i)
 unfoldable pub markedTo : List ℕ → ℕ → ℕ
 markedTo w k = sumTo (λ i. getD w i 0) k
 
--- if n is 16, the step is one that the sieve can begin with
-pub record Short (step n : ℕ) : Type 0 where
-  pub small : 16 ≤ n → step < 256
+-- steps lag behind the sieve by n ticks; if these are 256, the last step was one that the sieve can begin with
+pub record Lag (step n : ℕ) : Type 0 where
+  pub few : n ≤ 256
+  pub small : 256 ≤ n → step < 256
 
-pub short-small : (step n : ℕ) → Short step n → 16 ≤ n → step < 256
-short-small step n s l = s .small l
+pub lag-small : (step n : ℕ) → Lag step n → 256 ≤ n → step < 256
+lag-small step n s l = s .small l
 
 -- ---- the places of one row
 

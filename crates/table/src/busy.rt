@@ -6,7 +6,7 @@ ghost use Rattle.table.specs.Busy.{Settled};
 use super::leap::further;
 use super::request::requested;
 use super::rows::count;
-use super::sieve::short_steps;
+use super::sieve::lag_after;
 
 // The length, 1,000,001 where there is none up to 1,000,000, and how many times the request was summed up to find it.
 pub struct Busy {
@@ -23,15 +23,15 @@ pub fn busy_length(words: &[u32], inverses: &[u64; 16]) -> Busy
     let n = count(words);
     let mut r: u64 = 1;
     let mut sums: u64 = 0;
-    let mut short: u64 = 0;
+    let mut lag: u64 = 0;
     let length = loop {
         let next = requested(words, inverses, r);
         sums = sums + 1;
         if next == r {
             break r;
         }
-        short = short_steps(n, next - r, short);
-        let far = further(words, inverses, r, next, sums, short);
+        lag = lag_after(n, next - r, lag);
+        let far = further(words, inverses, r, next, sums, lag);
         if 1000000 < far {
             break 1000001;
         }

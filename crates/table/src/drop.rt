@@ -8,7 +8,7 @@ ghost use Rattle.edf.specs.Demand.{demand};
 ghost use Rattle.table.specs.Rows.{tasksOf, Fit};
 ghost use Rattle.table.specs.Bound.{Within};
 ghost use Rattle.table.specs.Inverse.{Inverses, Tame};
-ghost use Rattle.table.specs.Sieve.{Short};
+ghost use Rattle.table.specs.Sieve.{Lag};
 ghost use Rattle.table.specs.Drop.{riseBy, LightHolding, holdingBy, Held, dropBy, Drop, Lower};
 use super::demand::jobs_by;
 use super::demand::owe;
@@ -157,17 +157,17 @@ fn sift(words: &[u32], inverses: &[u64; 16], t: u64, h: u64) -> u64
 }
 
 // Where the search goes on below t, whose demand h is no more than t: below h. At the 16th sum and every 64th from there on,
-// at the bound if that is lower. After 16 short steps in a row at every 16th, and else by the sieve. Internal: `assess` tests
-// the rows first.
-pub fn lower(words: &[u32], inverses: &[u64; 16], t: u64, h: u64, sums: u64, short: u64) -> u64
-    requires { ⌜ Fit (tasksOf (now words)) × Inverses (tasksOf (now words)) (now inverses) × (t ≤ 1000000) × (h ≤ t) × Short (t - h) short × Within 16000000000000 (demand (tasksOf (now words)) t) h ⌝ }
+// at the bound if that is lower. Where the steps lag behind the sieve at every 16th, and else by the sieve. Internal: `assess`
+// tests the rows first.
+pub fn lower(words: &[u32], inverses: &[u64; 16], t: u64, h: u64, sums: u64, lag: u64) -> u64
+    requires { ⌜ Fit (tasksOf (now words)) × Inverses (tasksOf (now words)) (now inverses) × (t ≤ 1000000) × (h ≤ t) × Lag (t - h) lag × Within 16000000000000 (demand (tasksOf (now words)) t) h ⌝ }
     ensures { λ r. ⌜ Lower (tasksOf (now (words .entry))) t h r ⌝ }
 {
     let u = less(h, 1);
     if sums % 64 == 16 {
         return drops(words, inverses, t, h, u);
     }
-    if short < 16 {
+    if lag < 256 {
         return u;
     }
     if sums % 16 == 0 {

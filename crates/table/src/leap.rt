@@ -8,7 +8,7 @@ ghost use Rattle.edf.specs.Demand.{request};
 ghost use Rattle.table.specs.Rows.{tasksOf, Fit};
 ghost use Rattle.table.specs.Bound.{Within};
 ghost use Rattle.table.specs.Inverse.{Inverses, Tame};
-ghost use Rattle.table.specs.Sieve.{Short};
+ghost use Rattle.table.specs.Sieve.{Lag};
 ghost use Rattle.table.specs.Leap.{shareBy, LightFilling, fillingBy, Filled, leapBy, Leap, Further};
 use super::inverse::Prepared;
 use super::inverse::prepare;
@@ -133,16 +133,16 @@ fn sift(words: &[u32], inverses: &[u64; 16], r: u64, next: u64) -> u64
 }
 
 // Where the iteration goes on after r, whose request is next: there. At the 16th sum and every 64th from there on, at the bound
-// if that is further. After 16 short steps in a row at every 16th, and else by the sieve. Internal: `assess` tests the rows
-// first.
-pub fn further(words: &[u32], inverses: &[u64; 16], r: u64, next: u64, sums: u64, short: u64) -> u64
-    requires { ⌜ Fit (tasksOf (now words)) × Inverses (tasksOf (now words)) (now inverses) × (1 ≤ r) × (r ≤ 1000000) × (r < next) × Short (next - r) short × Within 16000000000000 (request (tasksOf (now words)) r) next ⌝ }
+// if that is further. Where the steps lag behind the sieve at every 16th, and else by the sieve. Internal: `assess` tests the
+// rows first.
+pub fn further(words: &[u32], inverses: &[u64; 16], r: u64, next: u64, sums: u64, lag: u64) -> u64
+    requires { ⌜ Fit (tasksOf (now words)) × Inverses (tasksOf (now words)) (now inverses) × (1 ≤ r) × (r ≤ 1000000) × (r < next) × Lag (next - r) lag × Within 16000000000000 (request (tasksOf (now words)) r) next ⌝ }
     ensures { λ x. ⌜ Further (tasksOf (now (words .entry))) r next x ⌝ }
 {
     if sums % 64 == 16 {
         return leaps(words, inverses, r, next);
     }
-    if short < 16 {
+    if lag < 256 {
         return next;
     }
     if sums % 16 == 0 {

@@ -6,7 +6,7 @@ ghost use Rattle.table.specs.Overload.{Searched};
 use super::demand::demand_at;
 use super::drop::lower;
 use super::rows::count;
-use super::sieve::short_steps;
+use super::sieve::lag_after;
 
 // A tick and the demand there, which exceeds it; 0 and 0 where no tick of the range has one. And how many times the
 // demand was summed up to find it.
@@ -24,7 +24,7 @@ pub fn search(words: &[u32], inverses: &[u64; 16], end: u64) -> Found
     let n = count(words);
     let mut t = end;
     let mut sums: u64 = 0;
-    let mut short: u64 = 0;
+    let mut lag: u64 = 0;
     while 0 < t {
         let h = demand_at(words, inverses, t);
         sums = sums + 1;
@@ -35,8 +35,8 @@ pub fn search(words: &[u32], inverses: &[u64; 16], end: u64) -> Found
                 sums,
             };
         }
-        short = short_steps(n, t - h, short);
-        t = lower(words, inverses, t, h, sums, short);
+        lag = lag_after(n, t - h, lag);
+        t = lower(words, inverses, t, h, sums, lag);
     }
     Found {
         at: 0,

@@ -7,7 +7,7 @@ ghost use Rattle.table.specs.Settle.{Climbed, Settles};
 use super::leap::further;
 use super::request::requested;
 use super::rows::count;
-use super::sieve::short_steps;
+use super::sieve::lag_after;
 
 // The least such stretch from `from` to `end`; 1,000,001 where there is none.
 fn climb(words: &[u32], inverses: &[u64; 16], from: u64, end: u64) -> u64
@@ -17,15 +17,15 @@ fn climb(words: &[u32], inverses: &[u64; 16], from: u64, end: u64) -> u64
     let n = count(words);
     let mut r = from;
     let mut sums: u64 = 0;
-    let mut short: u64 = 0;
+    let mut lag: u64 = 0;
     while r <= end {
         let next = requested(words, inverses, r);
         sums = sums + 1;
         if next <= r {
             return r;
         }
-        short = short_steps(n, next - r, short);
-        r = further(words, inverses, r, next, sums, short);
+        lag = lag_after(n, next - r, lag);
+        r = further(words, inverses, r, next, sums, lag);
     }
     1000001
 }

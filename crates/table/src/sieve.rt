@@ -6,7 +6,7 @@ ghost use mathlib.Core.Path.{_≡_};
 ghost use Prim.Native.Nat.{_≤_, _<_};
 ghost use Rattle.table.specs.Rows.{tasksOf, Fit};
 ghost use Rattle.table.specs.Inverse.{Inverses, Tame};
-ghost use Rattle.table.specs.Sieve.{sinceBy, untilBy, placeBy, Markable, Marked, Bounded, OfTwo, Lasts, Short, Sieved};
+ghost use Rattle.table.specs.Sieve.{sinceBy, untilBy, placeBy, Markable, Marked, Bounded, OfTwo, Lasts, Lag, Sieved};
 use super::demand::jobs_by;
 use super::inverse::Prepared;
 use super::inverse::prepare;
@@ -14,16 +14,21 @@ use super::request::ceiling;
 use super::rows::count;
 use super::rows::wide;
 
-// How many steps in a row were short, up to 16: fewer ticks than there are rows, n. A sum over n rows costs about as much as n
-// ticks of the sieve, so after 16 short steps the sieve would have been the faster way. Internal: no table has more rows.
-pub fn short_steps(n: usize, step: u64, before: u64) -> u64
-    requires { ⌜ n ≤ 16 ⌝ }
-    ensures { λ r. ⌜ Short step r ⌝ }
+// By how many ticks the steps lag behind a sieve of the same cost, 0 to 256, after one step more: a sum over n rows costs about
+// as much as n ticks of the sieve. At 256 the sieve is the faster way. Internal: no table has more rows.
+pub fn lag_after(n: usize, step: u64, lag: u64) -> u64
+    requires { ⌜ (n ≤ 16) × (lag ≤ 256) ⌝ }
+    ensures { λ r. ⌜ Lag step r ⌝ }
 {
-    if n <= step as usize {
+    let ticks = lag + (n as u64);
+    if ticks <= step {
         return 0;
     }
-    if before < 16 { before + 1 } else { 16 }
+    if ticks - step < 256 {
+        ticks - step
+    } else {
+        256
+    }
 }
 
 // The ticks up to t since the last deadline that the row k can have.

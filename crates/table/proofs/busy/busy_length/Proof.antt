@@ -1,16 +1,16 @@
 -- `table::busy::busy_length` meets its contract. Assumes nothing.
 use borrow.Author.Needs.{needs}
-use Prim.Native.Nat.{_-_}
+use Prim.Native.Nat.{_≤_, _-_}
 use Rattle.table.specs.Busy.{Turn, busy-laws}
 use Rattle.table.specs.Rows.{tasksOf}
 use Rattle.table.proofs.busy.busy_length.Statement.{statement}
 use Rattle.table.proofs.busy.busy_length.Tie as tie
 
 abbrev Inv-loop : tie.InvT-loop
-Inv-loop words inverses n r₀ sums₀ short₀ r sums short = Turn (tasksOf words) r sums
+Inv-loop words inverses n r₀ sums₀ lag₀ r sums lag = (Turn (tasksOf words) r sums) × (lag ≤ 256)
 
 abbrev μ-loop : tie.MeasureT-loop
-μ-loop words inverses n r₀ sums₀ short₀ r sums short = 1000000 - r
+μ-loop words inverses n r₀ sums₀ lag₀ r sums lag = 1000000 - r
 
 count-requires : tie.Need-count-requires Inv-loop μ-loop
 count-requires c κs = search needs
@@ -24,11 +24,11 @@ requested-requires c κs = search needs
 add-sums : tie.Need-add-sums Inv-loop μ-loop
 add-sums c = search (needs, busy-laws)
 
-sub-short-steps : tie.Need-sub-short-steps Inv-loop μ-loop
-sub-short-steps c = search (needs, busy-laws)
+sub-lag-after : tie.Need-sub-lag-after Inv-loop μ-loop
+sub-lag-after c = search (needs, busy-laws)
 
-short-steps-requires : tie.Need-short-steps-requires Inv-loop μ-loop
-short-steps-requires c κs = search needs
+lag-after-requires : tie.Need-lag-after-requires Inv-loop μ-loop
+lag-after-requires c κs = search needs
 
 further-requires : tie.Need-further-requires Inv-loop μ-loop
 further-requires c κs = search (needs, busy-laws)
@@ -55,8 +55,8 @@ busy-length-spec =
     loop-holds
     requested-requires
     add-sums
-    sub-short-steps
-    short-steps-requires
+    sub-lag-after
+    lag-after-requires
     further-requires
     loop-less
     loop-again

@@ -1,7 +1,7 @@
 -- `table::drop::lower` meets its contract. Assumes nothing.
 use borrow.Author.Needs.{needs}
 use Rattle.table.specs.Drop.{lower-laws}
-use Rattle.table.specs.Sieve.{short-small}
+use Rattle.table.specs.Sieve.{lag-small}
 use Rattle.table.proofs.drop.lower.Statement.{statement}
 use Rattle.table.proofs.drop.lower.Tie as tie
 
@@ -27,7 +27,7 @@ returns-4 : tie.Need-returns-4
 returns-4 c = search needs
 
 sift-requires : tie.Need-sift-requires
-sift-requires c κs = search (needs, lower-laws, short-small)
+sift-requires c κs = search (needs, lower-laws, lag-small)
 
 returns-5 : tie.Need-returns-5
 returns-5 c = search needs

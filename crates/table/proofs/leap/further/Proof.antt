@@ -1,7 +1,7 @@
 -- `table::leap::further` meets its contract. Assumes nothing.
 use borrow.Author.Needs.{needs}
 use Rattle.table.specs.Leap.{further-laws}
-use Rattle.table.specs.Sieve.{short-small}
+use Rattle.table.specs.Sieve.{lag-small}
 use Rattle.table.proofs.leap.further.Statement.{statement}
 use Rattle.table.proofs.leap.further.Tie as tie
 
@@ -12,7 +12,7 @@ returns : tie.Need-returns
 returns c = search needs
 
 returns-2 : tie.Need-returns-2
-returns-2 c = search (needs, further-laws, short-small)
+returns-2 c = search (needs, further-laws, lag-small)
 
 leaps-requires-2 : tie.Need-leaps-requires-2
 leaps-requires-2 c κs = search needs
@@ -21,7 +21,7 @@ returns-3 : tie.Need-returns-3
 returns-3 c = search needs
 
 sift-requires : tie.Need-sift-requires
-sift-requires c κs = search (needs, further-laws, short-small)
+sift-requires c κs = search (needs, further-laws, lag-small)
 
 returns-4 : tie.Need-returns-4
 returns-4 c = search needs

@@ -1,15 +1,16 @@
 -- `table::overload::search` meets its contract. Assumes nothing.
 use borrow.Author.Needs.{needs}
+use Prim.Native.Nat.{_≤_}
 use Rattle.table.specs.Overload.{Clear, overload-laws}
 use Rattle.table.specs.Rows.{tasksOf}
 use Rattle.table.proofs.overload.search.Statement.{statement}
 use Rattle.table.proofs.overload.search.Tie as tie
 
 abbrev Inv-loop : tie.InvT-loop
-Inv-loop words inverses end n t₀ sums₀ short₀ t sums short = Clear (tasksOf words) end t sums
+Inv-loop words inverses end n t₀ sums₀ lag₀ t sums lag = (Clear (tasksOf words) end t sums) × (lag ≤ 256)
 
 abbrev μ-loop : tie.MeasureT-loop
-μ-loop words inverses end n t₀ sums₀ short₀ t sums short = t
+μ-loop words inverses end n t₀ sums₀ lag₀ t sums lag = t
 
 count-requires : tie.Need-count-requires Inv-loop μ-loop
 count-requires c κs = search needs
@@ -26,8 +27,8 @@ add-sums c = search (needs, overload-laws)
 returns : tie.Need-returns Inv-loop μ-loop
 returns c = search (needs, overload-laws)
 
-short-steps-requires : tie.Need-short-steps-requires Inv-loop μ-loop
-short-steps-requires c κs = search needs
+lag-after-requires : tie.Need-lag-after-requires Inv-loop μ-loop
+lag-after-requires c κs = search needs
 
 lower-requires : tie.Need-lower-requires Inv-loop μ-loop
 lower-requires c κs = search needs
@@ -52,7 +53,7 @@ search-spec =
     demand-at-requires
     add-sums
     returns
-    short-steps-requires
+    lag-after-requires
     lower-requires
     loop-less
     loop-again

@@ -1,16 +1,16 @@
 -- `table::settle::climb` meets its contract. Assumes nothing.
 use borrow.Author.Needs.{needs}
-use Prim.Native.Nat.{_-_}
+use Prim.Native.Nat.{_≤_, _-_}
 use Rattle.table.specs.Rows.{tasksOf}
 use Rattle.table.specs.Settle.{Rising, rising-laws}
 use Rattle.table.proofs.settle.climb.Statement.{statement}
 use Rattle.table.proofs.settle.climb.Tie as tie
 
 abbrev Inv-loop : tie.InvT-loop
-Inv-loop words inverses from end n r₀ sums₀ short₀ r sums short = Rising (tasksOf words) from r sums
+Inv-loop words inverses from end n r₀ sums₀ lag₀ r sums lag = (Rising (tasksOf words) from r sums) × (lag ≤ 256)
 
 abbrev μ-loop : tie.MeasureT-loop
-μ-loop words inverses from end n r₀ sums₀ short₀ r sums short = 1000001 - r
+μ-loop words inverses from end n r₀ sums₀ lag₀ r sums lag = 1000001 - r
 
 count-requires : tie.Need-count-requires Inv-loop μ-loop
 count-requires c κs = search needs
@@ -27,11 +27,11 @@ add-sums c = search (needs, rising-laws)
 returns : tie.Need-returns Inv-loop μ-loop
 returns c = search (needs, rising-laws)
 
-sub-short-steps : tie.Need-sub-short-steps Inv-loop μ-loop
-sub-short-steps c = search (needs, rising-laws)
+sub-lag-after : tie.Need-sub-lag-after Inv-loop μ-loop
+sub-lag-after c = search (needs, rising-laws)
 
-short-steps-requires : tie.Need-short-steps-requires Inv-loop μ-loop
-short-steps-requires c κs = search needs
+lag-after-requires : tie.Need-lag-after-requires Inv-loop μ-loop
+lag-after-requires c κs = search needs
 
 further-requires : tie.Need-further-requires Inv-loop μ-loop
 further-requires c κs = search needs
@@ -56,8 +56,8 @@ climb-spec =
     requested-requires
     add-sums
     returns
-    sub-short-steps
-    short-steps-requires
+    sub-lag-after
+    lag-after-requires
     further-requires
     loop-less
     loop-again
