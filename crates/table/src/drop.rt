@@ -1,5 +1,5 @@
 // An upper bound on every exceeded tick up to t, from the rows' utilisation (docs/SPECIFICATION.md §3.1): where the search
-// would take many short steps, it goes on below it.
+// would take many short steps, it goes on below it, or sieves the ticks.
 ghost use mathlib.Core.Path.{_≡_};
 ghost use Prim.Native.Nat.{_+_, _-_, _*_, _≤_, _<_};
 ghost use lib.Dec.{ltb};

@@ -1,5 +1,5 @@
 // A lower bound on every busy length, from the rows' utilisation (docs/SPECIFICATION.md §2.4): where the iteration would
-// take many short steps, it goes on from here.
+// take many short steps, it goes on from here, or sieves the ticks.
 ghost use mathlib.Core.Path.{_≡_};
 ghost use Prim.Native.Nat.{_-_, _*_, _≤_, _<_, min};
 ghost use lib.Dec.{ltb};

@@ -1,4 +1,5 @@
-// A tick whose demand exceeds it (docs/SPECIFICATION.md §3.1), found by jumps and not by a scan: the QPA test.
+// A tick whose demand exceeds it (docs/SPECIFICATION.md §3.1), found by jumps and not by a scan (the QPA test), and where the
+// jumps are short by a sieve.
 ghost use Prim.Native.Nat.{_≤_};
 ghost use Rattle.table.specs.Rows.{tasksOf, Fit};
 ghost use Rattle.table.specs.Inverse.{Inverses};
