@@ -146,8 +146,9 @@ shuffle_reply shuffle_arrive(shuffle_session *session, uint64_t row);
 
 /*
  * Chooses what runs next, by n random words, of which the first two at most are
- * looked at. Without words the earliest deadline runs. If no job waits: idle,
- * for 1,000,000 ticks. Refusals: 5, 8.
+ * looked at. Without words the earliest deadline runs; of equal deadlines the
+ * job that arrived first, and of those of one tick the lowest row. If no job
+ * waits: idle, for 1,000,000 ticks. Refusals: 5, 8.
  */
 shuffle_reply shuffle_choose(shuffle_session *session, const uint32_t *words, size_t n);
 

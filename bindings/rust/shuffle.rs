@@ -185,7 +185,8 @@ impl Session {
     }
 
     /// Chooses what runs next, by random words, of which the first two at most are looked at.
-    /// Without words the earliest deadline runs. If no job waits: idle, for 1,000,000 ticks.
+    /// Without words the earliest deadline runs; of equal deadlines the job that arrived first, and
+    /// of those of one tick the lowest row. If no job waits: idle, for 1,000,000 ticks.
     /// Refusals: 5, 8.
     pub fn choose(&mut self, words: &[u32]) -> Reply {
         // SAFETY: as for `replace`.

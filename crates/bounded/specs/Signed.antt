@@ -1,12 +1,14 @@
--- The difference a - b - c of three numbers, over the integers and as an i64. Assumes nothing.
-use Prim.Native.Nat.{ℕ, zero, suc, _+_, _-_, _<_, _^_}
+-- Differences of numbers, over the integers: which of two is the less; and a - b - c as an i64. Assumes nothing.
+use Prim.Native.Nat.{ℕ, zero, suc, _+_, _-_, _≤_, _<_, _^_}
 use mathlib.Core.Bool.{Bool, true, false, true≢false}
 use mathlib.Core.Path.{_≡_, refl, sym, ap, _∙_}
+use mathlib.Core.Logic.{dite}
 use native.Mathlib.Omega.{arith}
+use native.Mathlib.Decide.{decLt}
 use lib.IntN.{ℤ, pos, negsuc, subℕ, _+ℤ_, _-ℤ_, negℤ, natAbs, +ℤ-assoc, negℤ-+ℤ}
 use lib.Signed.{ltZ, nonNeg}
 use lib.Dec.{T, ltb}
-use borrow.Author.Tests.{le-ltb, ltb-true}
+use borrow.Author.Tests.{lt-ltb, le-ltb, ltb-true, ltb-false}
 use mir.Syntax.{w64}
 use mir.Val.{Fits, SFits, toZ, ofZ}
 use mir.ValLaws.{toZ-pos}
@@ -39,6 +41,33 @@ negative-sub a b = both (ltb a b) (λ e. simp e) (λ e. simp e)
 -- it is negative where b and c exceed a, and only there
 pub difference-negative : (a b c : ℕ) → negative (difference a b c) ≡ ltb a (b + c)
 difference-negative a b c = ap negative (difference-sub a b c) ∙ negative-sub a (b + c)
+
+-- a - b is less than c - d exactly if a + d is less than c + b
+less-sub : (a b c d : ℕ) → ltZ (subℕ a b) (subℕ c d) ≡ ltb (a + d) (c + b)
+less-sub a b c d =
+    both (ltb a b)
+    (λ e.
+    let p = ltb-true a b e in
+    both (ltb c d)
+    (λ f. let q = ltb-true c d f in simp (e, f) (less-same (d - suc c) (b - suc a) (a + d) (c + b) (omega arith) (omega arith)))
+    (λ f. let q = ltb-false c d f in simp (e, f) (sym (lt-ltb (a + d) (c + b) (omega arith)))))
+    (λ e.
+    let p = ltb-false a b e in
+    both (ltb c d)
+    (λ f. let q = ltb-true c d f in simp (e, f) (sym (le-ltb (a + d) (c + b) (omega arith))))
+    (λ f. let q = ltb-false c d f in simp (e, f) (less-same (a - b) (c - d) (a + d) (c + b) (omega arith) (omega arith))))
+  where
+    less-same : (x y z w : ℕ) → (x < y → z < w) → (y ≤ x → w ≤ z) → ltb x y ≡ ltb z w
+    less-same x y z w g h =
+        dite (decLt x y) (λ l. lt-ltb x y l ∙ sym (lt-ltb z w (g l))) (λ l. le-ltb x y (omega arith) ∙ sym (le-ltb z w (h (omega arith))))
+
+pub difference-less : (a b c d : ℕ) → ltZ (pos a -ℤ pos b) (pos c -ℤ pos d) ≡ ltb (a + d) (c + b)
+difference-less a b c d = rw (pos-sub a b, pos-sub c d) (less-sub a b c d)
+
+-- c - b is a where c is a + b
+pub difference-is : (a b c : ℕ) → a + b ≡ c → pos c -ℤ pos b ≡ pos a
+difference-is a b c e =
+    pos-sub c b ∙ simp (le-ltb c b (omega arith)) (let d : c - b ≡ a = omega arith in ap pos d)
 
 -- ---- as the machine computes it, at 64 bits: both subtractions fit, and the bits read back are the difference
 

@@ -22,7 +22,7 @@ use Rattle.session.specs.declared.Job.{Job}
 use Rattle.session.specs.declared.Session.{Session}
 use Rattle.session.specs.Reading.{idle, noJob, rowsOf, waits, ahead, startBy, startBudget}
 use Rattle.session.specs.Sound.{soundRows, soundWaiting, soundJob, runs, affords, soundChoice, sound}
-use Rattle.session.specs.Order.{before, isHead, headOf, permits, candidate, candidates, position, rowWith, candidateAt}
+use Rattle.session.specs.Order.{arrivalOf, cameBefore, before, isHead, headOf, permits, candidate, candidates, position, rowWith, candidateAt}
 use Rattle.session.specs.Choose.{draw, drawn, pickOf, room, unopposed, lengthDrawn, spanOf, pickUsed, usedOf}
 use Rattle.session.specs.Calls.{Shown, shown, three, arriveIn, chooseIn, agedJob, agedJobs, overBy, overAfter, advanceIn, finishIn, arriveOf, chooseOf, advanceOf, finishOf}
 use Rattle.session.specs.Admit.{wordsTo, freshOf, sessionOf}
@@ -43,6 +43,8 @@ pub data Question : Type 0 where
   opened : List ℕ → ℕ → Question
   -- whether a session is sound
   soundness : Session → Question
+  -- the first in order of the waiting jobs of a session
+  head : Session → Question
   -- whether each of the first n rows of a session is a candidate, and then whether idle is one
   chosenFrom : Session → ℕ → Question
   -- a call on a session
@@ -56,6 +58,7 @@ pub data Reply : Type 0 where
   tick : ℕ → ℕ → Reply
   fresh : Session → Reply
   flag : Bool → Reply
+  row : ℕ → Reply
   flags : List Bool → Reply
   -- an answer's number and values, the words used, and the session left
   outcome : Shown → ℕ → Session → Reply
@@ -75,6 +78,7 @@ reply (busy l) = ticks (busyLength (tasksOf l))
 reply (exceeded l) = tick (firstOverload (tasksOf l)) (demand (tasksOf l) (firstOverload (tasksOf l)))
 reply (opened l t) = fresh (sessionOf l t)
 reply (soundness s) = flag (sound s)
+reply (head s) = row (headOf s)
 reply (chosenFrom s n) = flags (candidatesTo s n)
 reply (called s c) = outcome (shown (outcomeOf s c .answer)) (outcomeOf s c .used) (outcomeOf s c .session)
 
@@ -119,10 +123,39 @@ session l jobs clock c n = record {
 abbrev job : ℕ → ℕ → ℕ → ℕ → Job
 job next due left budget = record { next = next; due = due; left = left; budget = budget }
 
--- deadlines 10, 10, 20 with budgets 3, 0, 4
+-- deadlines 10, 10, 20 with budgets 3, 0, 4; rows 0 and 1 arrived on the same tick
 abbrev equal : Session
 equal =
     session (1 ∷ 10 ∷ 10 ∷ 1 ∷ 10 ∷ 10 ∷ 1 ∷ 20 ∷ 20 ∷ []) (job 10 10 1 3 ∷ job 10 10 1 0 ∷ job 20 20 1 4 ∷ []) 0 0 0
+
+-- two rows of unequal D, and sessions of theirs from call to call: row 1 arrives at 0 and row 0 at 10, both due at 20
+abbrev unequal : List ℕ
+unequal = 1 ∷ 10 ∷ 10 ∷ 1 ∷ 20 ∷ 20 ∷ []
+
+abbrev of : Job → Job → ℕ → ℕ → ℕ → Session
+of a b clock c n = session unequal (a ∷ b ∷ []) clock c n
+
+abbrev u₀ : Session
+u₀ = of noJob noJob 0 0 0
+
+abbrev u₁ : Session
+u₁ = of noJob (job 20 20 1 17) 0 0 0
+
+abbrev u₂ : Session
+u₂ = of noJob (job 20 20 1 17) 0 16 10
+
+abbrev u₃ : Session
+u₃ = of noJob (job 20 20 1 7) 10 0 0
+
+abbrev u₄ : Session
+u₄ = of (job 20 20 1 8) (job 20 20 1 7) 10 0 0
+
+abbrev u₅ : ℕ → Session
+u₅ c = of (job 20 20 1 8) (job 20 20 1 7) 10 c 1
+
+-- the same rows in a record that no call leads to: both due at 5, and arrived 5 and 15 ticks before 0
+abbrev early : Session
+early = of (job 5 5 1 8) (job 5 5 1 17) 0 0 0
 
 -- the listing's table, and its sessions from call to call
 abbrev listing : List ℕ
@@ -178,6 +211,18 @@ cases =
     ∷ is (verdict [] 0) (answer 1 0 0)
     ∷ is (soundness equal) (flag true)
     ∷ is (chosenFrom equal 3) (flags (true ∷ true ∷ false ∷ false ∷ []))
+    ∷ is (head equal) (row 0)
+    ∷ is (opened unequal 0) (fresh u₀)
+    ∷ is (called u₀ (arrive 1)) (outcome (three 0 1 20) 0 u₁)
+    ∷ is (called u₁ (choose (1 ∷ 9 ∷ []))) (outcome (three 0 16 10) 2 u₂)
+    ∷ is (called u₂ (advance 10)) (outcome (three 0 0 0) 0 u₃)
+    ∷ is (called u₃ (arrive 0)) (outcome (three 0 0 20) 0 u₄)
+    ∷ is (head u₄) (row 1)
+    ∷ is (called u₄ (choose [])) (outcome (three 0 1 1) 0 (u₅ 1))
+    ∷ is (called u₄ (choose (0 ∷ []))) (outcome (three 0 1 1) 1 (u₅ 1))
+    ∷ is (called u₄ (choose (1 ∷ []))) (outcome (three 0 0 1) 1 (u₅ 0))
+    ∷ is (soundness early) (flag true)
+    ∷ is (head early) (row 1)
     ∷ is (opened listing 0) (fresh s₀)
     ∷ is (called s₀ (arrive 0)) (outcome (three 0 0 10) 0 s₁)
     ∷ is (called s₁ (arrive 1)) (outcome (three 0 1 15) 0 s₂)
@@ -234,9 +279,14 @@ All [] = Unit
 All (c ∷ l) = Holds c × All l
 
 pub every-case : All cases
-unfolding cases answerOf opinionOf badLength firstBroken broken rowRule tasksOf loose looseTo allTo budgetOf valuesOf valuesTo foldTo interference demand request sumTo gate jobsBy ceilDiv leastFrom rowsOf waits ahead startBy startBudget soundRows soundWaiting soundJob runs affords soundChoice sound before isHead headOf permits candidate candidates position rowWith candidateAt draw drawn pickOf room unopposed lengthDrawn spanOf pickUsed usedOf arriveIn chooseIn agedJob agedJobs overBy overAfter advanceIn finishIn arriveOf chooseOf advanceOf finishOf wordsTo freshOf sessionOf
+unfolding cases answerOf opinionOf badLength firstBroken broken rowRule tasksOf loose looseTo allTo budgetOf valuesOf valuesTo foldTo interference demand request sumTo gate jobsBy ceilDiv leastFrom rowsOf waits ahead startBy startBudget soundRows soundWaiting soundJob runs affords soundChoice sound arrivalOf cameBefore before isHead headOf permits candidate candidates position rowWith candidateAt draw drawn pickOf room unopposed lengthDrawn spanOf pickUsed usedOf arriveIn chooseIn agedJob agedJobs overBy overAfter advanceIn finishIn arriveOf chooseOf advanceOf finishOf wordsTo freshOf sessionOf
 every-case =
-    (refl, (refl, (heavy-verdict, (refl, (rw heavy-busy, (long-verdict, (rw long-busy, (refl, (refl, (over-verdict, (over-exceeded, (refl, (refl, listed)))))))))))))
+    (refl, (refl, (heavy-verdict, (refl, (rw heavy-busy, (long-verdict, (rw long-busy, (refl, (refl, (over-verdict, (over-exceeded, (refl, (refl, equals)))))))))))))
   where
-    listed : All (drop 13 cases)
-    listed = (refl, (refl, (refl, (refl, (refl, (refl, (refl, (refl, (refl, (refl, (refl, (refl, (refl, tt)))))))))))))
+    -- the listing
+    listed : All (drop 27 cases)
+    listed = (refl, (refl, (refl, (refl, (refl, (refl, (refl, (refl, (refl, (refl, (refl, tt)))))))))))
+
+    -- equal deadlines
+    equals : All (drop 13 cases)
+    equals = (refl, (refl, (refl, (refl, (refl, (refl, (refl, (refl, (refl, (refl, (refl, (refl, (refl, (refl, listed))))))))))))))

@@ -1,30 +1,31 @@
 -- Which candidate each number of a draw names, and how long the chosen one may run (docs/SPECIFICATION.md §5.4). Assumes nothing.
-use Prim.Native.Nat.{ℕ, zero, suc, _+_, _-_, _*_, _/_, _%_, _≤_, _<_}
+use Prim.Native.Nat.{ℕ, zero, suc, _+_, _-_, _%_, _≤_, _<_}
 use mathlib.Core.Path.{_≡_, refl, sym, ap, _∙_}
 use mathlib.Core.Bool.{Bool, true, false, not, _&&_, true≢false}
 use mathlib.Core.List.{List}
-use mathlib.Core.Logic.{dite, _⊎_, inl, inr, ⊎-elim}
-use native.Mathlib.Nat.{mod-lt, lt-div-mul-add}
+use mathlib.Core.Logic.{dite, _⊎_, ⊎-elim}
+use native.Mathlib.Nat.{mod-lt}
 use native.Mathlib.Omega.{arith}
 use native.Mathlib.Decide.{decLt, ℕ-discrete}
 use lib.Dec.{leb, ltb, eqb}
 use lib.IntN.{subℕ}
-use lib.ListN.{length, getD, List·getD-eq-default}
+use lib.ListN.{getD}
 use borrow.Author.Tests.{ltb-true, leb-true, eqb-true, lt-ltb, le-ltb, eq-eqb, ne-eqb}
-use Rattle.bounded.specs.Tests.{both, and-true, and-both, or-true, gate, gate-on, gate-off, gate-le}
+use Rattle.bounded.specs.Tests.{both, and-true, and-both, gate, gate-on, gate-off, gate-le}
 use Rattle.bounded.specs.Sum.{sumTo, sum-le, sum-add, sum-const, sum-zero, sum-le-at, sum-lt}
 use Rattle.bounded.specs.All.{all-at}
 use Rattle.bounded.specs.Least.{least-high, least-at, least-before}
 use Rattle.bounded.specs.Signed.{difference-sub}
 use Rattle.edf.specs.Demand.{TaskSet, interference}
-use Rattle.table.specs.Rows.{horizon, tasksOf, Fit}
+use Rattle.table.specs.Rows.{horizon}
 use Rattle.table.specs.Budgets.{budgetOf}
 use Rattle.session.specs.declared.Session.{Session}
-use Rattle.session.specs.Reading.{idle, jobAt, rowsOf, tasks, waits, natural, startBy, startBudget}
+use Rattle.session.specs.Reading.{idle, jobAt, tasks, waits, natural, startBy, startBudget}
 use Rattle.session.specs.Order.{before, isHead, headOf, permits, candidate, candidates, position, rowWith, candidateAt}
+use Rattle.session.specs.Before.{before-self, before-trans, before-or}
 use Rattle.session.specs.First.{is-head, head-waits}
 use Rattle.session.specs.Choose.{draw, drawn, pickOf, room}
-use Rattle.session.specs.Facts.{Facts, facts-fit}
+use Rattle.session.specs.Facts.{Facts, facts-deadline}
 use Rattle.guarantee.specs.KeepsSound.{ahead-waits, idle-ahead}
 use Rattle.guarantee.specs.KeepsPick.{pick-may}
 use Rattle.guarantee.specs.Room.{Lesser, room-lesser, may-room}
@@ -189,49 +190,7 @@ module _ (c : ℕ → Bool) (f : ℕ → ℕ) (n : ℕ) where
         let r = sum-lt (λ i. 0) (exact c f k) n (omega (arith, exact-some k h)) in
         (r .0, r .1, gate-some _ (r .2))
 
--- ---- `before` is a strict order of all rows
-
--- what its test says
-abbrev Before : Session → ℕ → ℕ → Type 0
-Before s i j = (jobAt s i .due < jobAt s j .due) ⊎ ((jobAt s i .due ≡ jobAt s j .due) × (i < j))
-
 module _ (s : Session) where
-  before-then : (i j : ℕ) → before s i j ≡ true → Before s i j
-  unfolding before
-  before-then i j e =
-      ⊎-elim (λ a. inl (ltb-true (jobAt s i .due) (jobAt s j .due) a))
-      (λ b.
-      let c = and-true (eqb (jobAt s i .due) (jobAt s j .due)) (ltb i j) b in
-      inr (eqb-true (jobAt s i .due) (jobAt s j .due) (c .0), ltb-true i j (c .1)))
-      (or-true (ltb (jobAt s i .due) (jobAt s j .due)) _ e)
-
-  then-before : (i j : ℕ) → Before s i j → before s i j ≡ true
-  unfolding before
-  then-before i j (inl a) = simp (lt-ltb (jobAt s i .due) (jobAt s j .due) a)
-  then-before i j (inr b) =
-      simp (le-ltb (jobAt s i .due) (jobAt s j .due) (omega arith), eq-eqb (jobAt s i .due) (jobAt s j .due) (b .0), lt-ltb i j (b .1))
-
-  before-self : (i : ℕ) → before s i i ≡ false
-  before-self i = both (before s i i) (λ e. absurd (⊎-elim (λ a. omega arith) (λ b. omega arith) (before-then i i e))) (λ e. e)
-
-  before-trans : (i j k : ℕ) → before s i j ≡ true → before s j k ≡ true → before s i k ≡ true
-  before-trans i j k a b = then-before i k (by (before-then i j a) (before-then j k b))
-    where
-      by : Before s i j → Before s j k → Before s i k
-      by (inl p) (inl q) = inl (omega arith)
-      by (inl p) (inr q) = inl (omega arith)
-      by (inr p) (inl q) = inl (omega arith)
-      by (inr p) (inr q) = inr (omega arith, omega arith)
-
-  before-or : (i j : ℕ) → ¬ (i ≡ j) → before s i j ≡ false → before s j i ≡ true
-  before-or i j ne e =
-      dite (decLt (jobAt s i .due) (jobAt s j .due)) (λ a. no (inl a))
-      (λ a. dite (decLt (jobAt s j .due) (jobAt s i .due)) (λ b. then-before j i (inl b))
-      (λ b. dite (decLt i j) (λ c. no (inr (omega arith, c))) (λ c. then-before j i (inr (omega arith, omega arith)))))
-    where
-      no : Before s i j → before s j i ≡ true
-      no b = absurd (true≢false (sym (then-before i j b) ∙ e))
-
   -- ---- the numbers
 
   -- what is before i is before j too, and i itself is before j only
@@ -244,9 +203,9 @@ module _ (s : Session) where
             (λ t u ne. gate-so (candidate s t && before s t i) (candidate s t && before s t j)
             (λ e.
             let a = and-true (candidate s t) _ e in
-            and-both (candidate s t) _ (a .0) (before-trans t i j (a .1) b))),
+            and-both (candidate s t) _ (a .0) (before-trans s t i j (a .1) b))),
         gate-on (candidate s i && before s i j) 1 (and-both (candidate s i) _ c b),
-        gate-off (candidate s i && before s i i) 1 (simp (c, before-self i)),
+        gate-off (candidate s i && before s i i) 1 (simp (c, before-self s i)),
       )
 
   -- i itself is a candidate, and not before i
@@ -258,7 +217,7 @@ module _ (s : Session) where
         sum-le-at (λ t. gate (candidate s t && before s t i) 1) (λ t. gate (candidate s t) 1) (s .count) i l
             (λ t u ne. gate-so (candidate s t && before s t i) (candidate s t) (λ e. and-true (candidate s t) _ e .0)),
         gate-on (candidate s i) 1 c,
-        gate-off (candidate s i && before s i i) 1 (simp (c, before-self i)),
+        gate-off (candidate s i && before s i i) 1 (simp (c, before-self s i)),
       )
 
   candidate-apart : (i j : ℕ) → i < s .count → j < s .count → candidate s i ≡ true → candidate s j ≡ true
@@ -267,7 +226,7 @@ module _ (s : Session) where
       dite (ℕ-discrete i j) (λ q. q)
       (λ ne. both (before s i j)
       (λ q. absurd (omega (arith, candidate-lower i j u a q)))
-      (λ q. absurd (omega (arith, candidate-lower j i v b (before-or i j ne q)))))
+      (λ q. absurd (omega (arith, candidate-lower j i v b (before-or s i j ne q)))))
 
   -- the row found is a candidate, and has the number
   row-with : (k : ℕ) → rowWith s k < s .count → (candidate s (rowWith s k) ≡ true) × (position s (rowWith s k) ≡ k)
@@ -385,16 +344,9 @@ start-le kind τ i =
     )))
     (λ e. simp e (omega arith))
 
--- D is at most 1,000,000; past the table's rows it is read as 0
-deadline-le : (l : List ℕ) → Fit (tasksOf l) → (i : ℕ) → tasksOf l .D i ≤ horizon
-unfolding tasksOf
-deadline-le l fit i =
-    dite (decLt i (length l / 3)) (λ h. omega (arith, fit .row i h))
-    (λ h. rw (List·getD-eq-default l 0 {n = 3 * i + 2} (omega (arith, lt-div-mul-add {a = length l} {b = 3} (omega arith)))) (omega arith))
-
 waiting-small : (s : Session) → Facts s → (i : ℕ) → i < s .count → waits s i ≡ true → jobAt s i .budget < horizon
 waiting-small s f i l w =
-    omega (arith, f .job i l w, start-le (s .kind) (tasks s) i, deadline-le (rowsOf s) (facts-fit s f) i)
+    omega (arith, f .job i l w, start-le (s .kind) (tasks s) i, facts-deadline s f i)
 
 pub idle-room : (s : Session) → Facts s → (j : ℕ) → j < s .count → waits s j ≡ true → IdleRoom s
 idle-room s f j l w =

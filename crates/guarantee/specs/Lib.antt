@@ -20,3 +20,4 @@ pub mod Ties
 pub mod Guarantee
 pub mod Exact
 pub mod Tight
+pub mod Arrived

@@ -1,19 +1,20 @@
--- What is guaranteed over every list of calls (docs/SPECIFICATION.md §6.2), of the record of a refused table (§5.1) and of
--- a choice in a tight session (§5.4). Definitions only. Assumes nothing.
+-- What is guaranteed over every list of calls (docs/SPECIFICATION.md §6.2), of the record of a refused table (§5.1), of the
+-- order of jobs and of a choice in a tight session (§5.4). Definitions only. Assumes nothing.
 use Prim.Native.Nat.{ℕ, _+_, _≤_, _<_}
 use mathlib.Core.Path.{_≡_}
 use mathlib.Core.Bool.{true, false}
 use mathlib.Core.List.{List, [], _∷_}
-use lib.Dec.{eqb}
+use lib.Dec.{ltb, eqb}
+use lib.IntN.{ℤ, pos}
 use Rattle.edf.specs.Demand.{TaskSet}
 use Rattle.table.specs.Rows.{tasksOf}
 use Rattle.table.specs.Verdict.{answerOf}
 pub use Rattle.table.specs.Theorems.{OverloadDeserved}
 use Rattle.session.specs.declared.Session.{Session}
 use Rattle.session.specs.declared.Outcome.{Outcome}
-use Rattle.session.specs.Reading.{idle, jobAt, waits}
+use Rattle.session.specs.Reading.{idle, jobAt, tasks, waits}
 use Rattle.session.specs.Sound.{sound}
-use Rattle.session.specs.Order.{headOf, permits, candidate, candidates}
+use Rattle.session.specs.Order.{arrivalOf, cameBefore, headOf, permits, candidate, candidates}
 use Rattle.session.specs.Choose.{pickOf, spanOf, pickUsed, usedOf}
 use Rattle.session.specs.Calls.{shown, three, arriveOf, chooseOf, advanceOf, finishOf}
 use Rattle.session.specs.Admit.{sessionOf}
@@ -86,6 +87,31 @@ abbrev pub DeterministicAfter : Type 0
 DeterministicAfter =
     (s s′ : Session) (calls calls′ : List Call) → s ≡ s′ → calls ≡ calls′
     → (eventsOf s calls ≡ eventsOf s′ calls′) × (sessionAfter s calls ≡ sessionAfter s′ calls′)
+
+-- OF EQUAL DEADLINES THE GREATER D ARRIVED FIRST: in every session, whatever the numbers, also where an arrival lies before 0
+abbrev pub GreaterFirst : Type 0
+GreaterFirst =
+    (s : Session) (i j : ℕ) → jobAt s i .due ≡ jobAt s j .due → cameBefore s i j ≡ ltb (tasks s .D j) (tasks s .D i)
+
+-- e is the latest entry of row i
+pub data Latest (i : ℕ) (e : Entry) : List Entry → Type 0 where
+  here : {l : List Entry} → e .row ≡ i → Latest i e (e ∷ l)
+  past : {f : Entry} {l : List Entry} → ¬ (f .row ≡ i) → Latest i e l → Latest i e (f ∷ l)
+
+-- the latest entry of row i has no end, and its arrival is a
+pub record Arrived (i : ℕ) (a : ℤ) (l : List Entry) : Type 0 where
+  pub entry : Entry
+  pub latest : Latest i entry l
+  pub waiting : entry .end ≡ none
+  pub arrival : a ≡ pos (entry .arrival)
+
+-- JOBS ARE ORDERED BY WHEN THEY REALLY ARRIVED: from the fresh session of every admitted table, after every list of calls, the
+-- arrival by which a waiting job is ordered is the one that the ledger has of it
+abbrev pub ArrivalsTold : Type 0
+ArrivalsTold =
+    (l : List ℕ) (t : ℕ) → answerOf l t .number ≡ 0
+    → (calls : List Call) (i : ℕ) → i < tasksOf l .rows → waits (sessionAfter (sessionOf l t) calls) i ≡ true
+    → Arrived i (arrivalOf (sessionAfter (sessionOf l t) calls) i) (ledgerOf (tasksOf l) (eventsOf (sessionOf l t) calls) .entries)
 
 -- the head is the only candidate
 pub record HeadOnly (s : Session) : Type 0 where

@@ -1,14 +1,16 @@
 -- What a sound session's tests say, as facts (docs/SPECIFICATION.md §5.2). Assumes nothing.
-use Prim.Native.Nat.{ℕ, _+_, _≤_, _<_}
+use Prim.Native.Nat.{ℕ, _+_, _*_, _/_, _≤_, _<_}
 use mathlib.Core.Path.{_≡_}
 use mathlib.Core.Bool.{true, not, _&&_, _||_}
-use mathlib.Core.Logic.{_⊎_, inl, inr, ⊎-elim}
+use mathlib.Core.Logic.{dite, _⊎_, inl, inr, ⊎-elim}
 use native.Mathlib.Omega.{arith}
+use native.Mathlib.Decide.{decLt}
 use lib.Dec.{leb, eqb}
+use lib.ListN.{length, List·getD-eq-default}
 use borrow.Author.Tests.{leb-true, ltb-true, eqb-true, eqb-false}
 use Rattle.bounded.specs.Tests.{both, and-true, so-then, or-true}
 use Rattle.bounded.specs.All.{allTo, all-at}
-use Rattle.table.specs.Rows.{horizon, Fit}
+use Rattle.table.specs.Rows.{horizon, tasksOf, Fit}
 use Rattle.table.specs.Verdict.{answerOf}
 use Rattle.table.specs.Theorems.{answer-fit}
 use Rattle.session.specs.declared.Session.{Session}
@@ -109,3 +111,10 @@ facts-of s e =
 -- its rows keep their rule
 pub facts-fit : (s : Session) → Facts s → Fit (tasks s)
 facts-fit s f = answer-fit (rowsOf s) 0 (f .admitted)
+
+-- D is at most 1,000,000; past the table's rows it is read as 0
+pub facts-deadline : (s : Session) → Facts s → (i : ℕ) → tasks s .D i ≤ horizon
+unfolding tasksOf
+facts-deadline s f i =
+    dite (decLt i (length (rowsOf s) / 3)) (λ h. omega (arith, facts-fit s f .row i h))
+    (λ h. rw (List·getD-eq-default (rowsOf s) 0 {n = 3 * i + 2} (omega arith)) (omega arith))

@@ -1,6 +1,7 @@
 pub mod Reading
 pub mod Sound
 pub mod Order
+pub mod Before
 pub mod First
 pub mod Choose
 pub mod Calls

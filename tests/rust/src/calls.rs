@@ -78,12 +78,12 @@ fn arrive(session: &mut Session, row: u32) -> Answer {
 
 /// The rows that may be chosen, in order, idle last; never empty.
 pub fn candidates(session: &Session) -> Vec<u32> {
-    let mut order: Vec<(u64, u32)> = (0..IDLE)
-        .filter_map(|row| session.job(row).map(|job| (job.due, row)))
-        .collect();
-    order.sort_unstable();
-    let waiting = order.into_iter().map(|(_, row)| row);
-    let mut candidates: Vec<u32> = waiting.chain([IDLE]).collect();
+    candidates_among(session, session.in_order())
+}
+
+/// The candidates among all waiting rows, which stand in this order.
+pub fn candidates_among(session: &Session, waiting: Vec<u32>) -> Vec<u32> {
+    let mut candidates: Vec<u32> = waiting.into_iter().chain([IDLE]).collect();
     let head = candidates[0];
     // With nothing waiting the head is idle, which has no budget to spend.
     let head_can_wait = session.job(head).is_some_and(|job| job.budget >= 1);
@@ -97,14 +97,23 @@ fn choose(session: &mut Session, words: &[u32]) -> Answer {
     if let Some(choice) = session.choice {
         return Answer::refused(8, choice.left, 0);
     }
-    let candidates = candidates(session);
+    let (choice, words_used) = pick(session, &candidates(session), words);
+    session.choice = Some(choice);
+    Answer {
+        words_used,
+        ..Answer::accepted(u64::from(choice.row), choice.left)
+    }
+}
+
+/// What the words pick among the candidates, and how many of them it takes.
+pub fn pick(session: &Session, candidates: &[u32], words: &[u32]) -> (Choice, usize) {
     let first_word = words.first().filter(|_| candidates.len() >= 2);
     let row = first_word.map_or(candidates[0], |word| {
         candidates[*word as usize % candidates.len()]
     });
     // Idle has no remaining ticks; no budget exceeds the horizon.
     let remaining = session.job(row).map_or(HORIZON, |job| job.left);
-    let (span, words_used) = match session.earlier(row).map(|job| job.budget as u64).min() {
+    let (left, words_used) = match session.earlier(row).map(|job| job.budget as u64).min() {
         None => (remaining, usize::from(first_word.is_some())),
         Some(least_budget) => {
             let longest = remaining.min(least_budget);
@@ -114,11 +123,7 @@ fn choose(session: &mut Session, words: &[u32]) -> Answer {
             }
         }
     };
-    session.choice = Some(Choice { row, left: span });
-    Answer {
-        words_used,
-        ..Answer::accepted(u64::from(row), span)
-    }
+    (Choice { row, left }, words_used)
 }
 
 fn advance(session: &mut Session, ticks: u64) -> Answer {

@@ -5,9 +5,10 @@ use crate::driver::{table_text, Driver};
 use crate::rng::Rng;
 use crate::runs::{extend, Style};
 use crate::specification::plain;
-use crate::table::{admit_rows, Row, HORIZON, ROW_LIMIT};
+use crate::table::{self, admit_rows, Row, HORIZON, ROW_LIMIT};
 use crate::tables::{
-    admitted, any_rows, full_rows, light_rows, long_busy_rows, small_rows, RowMaker,
+    admitted, admitted_as, any_rows, full_rows, light_rows, long_busy_rows, small_rows,
+    staggered_rows, RowMaker,
 };
 use crate::text::{Command, INPUT_LIMIT, WORD_LIMIT};
 
@@ -24,19 +25,21 @@ const fn kind(name: &'static str, weight: usize, make: fn(&mut Rng) -> Vec<u8>) 
 
 pub const KINDS: &[Kind] = &[
     kind("tables", 180, any_table),
-    kind("long-busy", 8, long_busy_table),
+    kind("long-busy", 12, long_busy_table),
     kind("runs", 240, light_run),
     kind("collisions", 200, small_run),
     kind("full-load", 100, full_run),
+    kind("ties", 300, loose_ties),
+    kind("tight-ties", 120, tight_ties),
     kind("damaged", 150, damaged_run),
     kind("numbers", 60, odd_number),
     kind("noise", 30, noise),
     kind("special", 20, special),
     kind("row-limit", 10, row_limit),
-    kind("word-limit", 6, word_limit),
-    kind("byte-limit", 6, byte_limit),
-    kind("long-runs", 4, long_run),
-    kind("far-clock", 2, far_clock),
+    kind("word-limit", 8, word_limit),
+    kind("byte-limit", 8, byte_limit),
+    kind("long-runs", 6, long_run),
+    kind("far-clock", 4, far_clock),
 ];
 
 /// A random input, and the place of its kind in `KINDS`.
@@ -100,22 +103,49 @@ pub fn full_run(rng: &mut Rng) -> Vec<u8> {
     run_on_admitted(rng, full_rows, 80)
 }
 
+/// A run timed so that deadlines meet.
+fn timed_run(rng: &mut Rng, rows: &[Row], most_steps: u32) -> Vec<u8> {
+    let mut driver = Driver::new(rows);
+    let style = Style::meeting(rng);
+    let steps = rng.between(20, most_steps) as usize;
+    extend(&mut driver, rng, style, steps);
+    driver.text
+}
+
+fn loose_ties(rng: &mut Rng) -> Vec<u8> {
+    let rows = admitted_as(rng, staggered_rows, table::Kind::Loose);
+    timed_run(rng, &rows, 120)
+}
+
+fn tight_ties(rng: &mut Rng) -> Vec<u8> {
+    let rows = admitted_as(rng, staggered_rows, table::Kind::Tight);
+    timed_run(rng, &rows, 120)
+}
+
+/// A short run of either kind of table in which deadlines meet.
+pub fn short_ties(rng: &mut Rng) -> Vec<u8> {
+    let rows = admitted(rng, staggered_rows);
+    timed_run(rng, &rows, 60)
+}
+
 fn long_run(rng: &mut Rng) -> Vec<u8> {
-    let makers: [RowMaker; 3] = [light_rows, small_rows, full_rows];
+    let makers: [RowMaker; 4] = [light_rows, small_rows, full_rows, staggered_rows];
     let make = rng.pick(&makers);
     run_on_admitted(rng, make, 12_000)
 }
 
 /// Idles to just below 2^32, so that clock and deadlines pass it.
 fn far_clock(rng: &mut Rng) -> Vec<u8> {
-    let mut driver = Driver::new(&admitted(rng, small_rows));
+    let makers: [RowMaker; 2] = [small_rows, staggered_rows];
+    let make = rng.pick(&makers);
+    let mut driver = Driver::new(&admitted(rng, make));
     let start = (1 << 32) - u64::from(rng.between(0, 40));
     while driver.machine.session.clock < start {
         let ticks = (start - driver.machine.session.clock).min(HORIZON);
         driver.push(Command::Choose);
         driver.push(Command::Advance(ticks as u32));
     }
-    let style = Style::random(rng);
+    let style = Style::meeting(rng);
     extend(&mut driver, rng, style, 300);
     driver.text
 }
@@ -126,9 +156,10 @@ pub fn short_run(rng: &mut Rng) -> Vec<u8> {
 }
 
 fn damaged_run(rng: &mut Rng) -> Vec<u8> {
-    let mut text = match rng.below(4) {
+    let mut text = match rng.below(5) {
         0 => light_run(rng),
         1 => small_run(rng),
+        2 => short_ties(rng),
         _ => short_run(rng),
     };
     for _ in 0..rng.pick(&[1, 1, 1, 2, 3]) {

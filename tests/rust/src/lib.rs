@@ -24,3 +24,4 @@ pub mod table;
 pub mod tables;
 pub mod tally;
 pub mod text;
+pub mod ties;

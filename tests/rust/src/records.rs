@@ -7,7 +7,9 @@ use crate::rng::Rng;
 use crate::session::{Choice, Job, Session, Slot, CLOCK_END, IDLE};
 use crate::shuffle::{self, Session as Record};
 use crate::table::{admit_rows, Row, HORIZON};
-use crate::tables::{admitted, full_rows, light_rows, small_rows, urgent_rows, RowMaker};
+use crate::tables::{
+    admitted, full_rows, light_rows, small_rows, staggered_rows, urgent_rows, RowMaker,
+};
 
 /// A record of random bytes, or of random numbers of every size; often with a
 /// kind and a number of rows that can be.
@@ -40,7 +42,14 @@ pub fn random_record(rng: &mut Rng) -> Record {
 
 /// An admitted table whose soundness the model decides quickly.
 pub fn random_table(rng: &mut Rng) -> Vec<Row> {
-    let makers: [RowMaker; 5] = [light_rows, small_rows, small_rows, full_rows, urgent_rows];
+    let makers: [RowMaker; 6] = [
+        light_rows,
+        small_rows,
+        small_rows,
+        full_rows,
+        urgent_rows,
+        staggered_rows,
+    ];
     let make = rng.pick(&makers);
     admitted(rng, make)
 }
@@ -78,16 +87,20 @@ pub fn sound_record(rng: &mut Rng) -> Record {
 fn sound_session(rng: &mut Rng) -> Session {
     let table = admit_rows(&random_table(rng)).expect("an admitted table");
     let mut session = Session::new(table);
-    session.clock = match rng.below(4) {
-        0 => edge(rng, 0, HORIZON),
-        1 => CLOCK_END - edge(rng, 0, 20),
-        2 => CLOCK_END - edge(rng, 0, HORIZON),
+    session.clock = match rng.below(5) {
+        0 => edge(rng, 0, 20),
+        1 => edge(rng, 0, HORIZON),
+        2 => CLOCK_END - edge(rng, 0, 20),
+        3 => CLOCK_END - edge(rng, 0, HORIZON),
         _ => edge(rng, 0, CLOCK_END),
     };
     for row in 0..session.rows.len() {
         session.slots[row] = sound_slot(rng, &session, row);
     }
-    if rng.chance(2, 3) {
+    if rng.chance(1, 2) {
+        tie(rng, &mut session);
+    }
+    if rng.chance(1, 2) {
         session.choice = sound_choice(rng, &session);
     }
     assert!(session.is_sound(), "{session:?}");
@@ -105,24 +118,46 @@ fn edge(rng: &mut Rng, low: u64, high: u64) -> u64 {
 
 fn sound_slot(rng: &mut Rng, session: &Session, row: usize) -> Slot {
     let Row {
-        run,
-        period,
-        deadline,
+        period, deadline, ..
     } = session.rows[row];
     let clock = session.clock;
     if rng.chance(1, 3) {
         let next = edge(rng, 0, clock + u64::from(period));
         return Slot { next, job: None };
     }
-    let age = edge(rng, 0, u64::from(deadline) - 1);
+    let due = clock + edge(rng, 1, u64::from(deadline));
+    waiting_slot(rng, session, row, due)
+}
+
+/// A row whose job waits for a deadline from clock + 1 to clock + D.
+fn waiting_slot(rng: &mut Rng, session: &Session, row: usize, due: u64) -> Slot {
+    let Row {
+        run,
+        period,
+        deadline,
+    } = session.rows[row];
     let full_budget = session.full_budget(row) as u64;
     Slot {
-        next: clock + u64::from(period) - age,
+        next: due + u64::from(period - deadline),
         job: Some(Job {
-            due: clock + u64::from(deadline) - age,
+            due,
             left: edge(rng, 1, u64::from(run)),
             budget: edge(rng, 0, full_budget) as i64,
         }),
+    }
+}
+
+/// Lets jobs of some rows wait for one deadline. How early each arrived is then
+/// up to its D: at a small clock, before tick 0.
+fn tie(rng: &mut Rng, session: &mut Session) {
+    let part = rng.between(1, 4) as usize;
+    let rows = (0..session.rows.len()).filter(|_| rng.chance(part, 4));
+    let rows: Vec<usize> = rows.collect();
+    let deadlines = rows.iter().map(|row| session.rows[*row].deadline);
+    let shortest = deadlines.min().unwrap_or(1);
+    let due = session.clock + edge(rng, 1, u64::from(shortest));
+    for row in rows {
+        session.slots[row] = waiting_slot(rng, session, row, due);
     }
 }
 

@@ -1,5 +1,6 @@
 //! Random lists of calls on an admitted table.
 
+use crate::calls::{candidates, perform_on_sound, Call};
 use crate::driver::Driver;
 use crate::rng::Rng;
 use crate::session::{Session, IDLE};
@@ -15,6 +16,8 @@ pub struct Style {
     pub refused: usize,
     /// Out of 16 steps, how many queue a word.
     pub words: usize,
+    /// Out of 8 of the other steps, how many are timed so that deadlines meet.
+    pub meetings: usize,
 }
 
 impl Style {
@@ -23,6 +26,15 @@ impl Style {
             arrivals: rng.pick(&[1, 4, 8]),
             refused: rng.pick(&[0, 1, 5]),
             words: rng.pick(&[0, 2, 6]),
+            meetings: rng.pick(&[0, 0, 0, 4]),
+        }
+    }
+
+    /// A style in which most steps are timed so that deadlines meet.
+    pub fn meeting(rng: &mut Rng) -> Self {
+        Style {
+            meetings: rng.pick(&[6, 7, 8]),
+            ..Style::random(rng)
         }
     }
 }
@@ -41,6 +53,8 @@ pub fn random_command(machine: &Machine, rng: &mut Rng, style: Style) -> Command
         Command::Word(random_word(rng))
     } else if rng.chance(style.refused, 16) {
         doubtful_call(&machine.session, rng)
+    } else if rng.chance(style.meetings, 8) {
+        timed_command(machine, rng)
     } else {
         accepted_call(&machine.session, rng, style)
     }
@@ -55,20 +69,19 @@ fn random_word(rng: &mut Rng) -> u32 {
 }
 
 fn accepted_call(session: &Session, rng: &mut Rng, style: Style) -> Command {
-    let ready: Vec<u32> = (0..session.slots.len() as u32)
-        .filter(|row| session.slots[*row as usize].next <= session.clock)
-        .collect();
-    let meeting: Vec<u32> = ready
-        .iter()
-        .copied()
-        .filter(|row| meets_a_deadline(session, *row))
-        .collect();
+    let meeting = meeting_rows(session);
     if !meeting.is_empty() && rng.chance(1, 2) {
         return Command::Arrive(rng.pick(&meeting));
     }
+    let ready = ready_rows(session);
     if !ready.is_empty() && rng.chance(style.arrivals, 8) {
         return Command::Arrive(rng.pick(&ready));
     }
+    run_or_choose(session, rng)
+}
+
+/// Goes on with the choice in force, or makes one.
+fn run_or_choose(session: &Session, rng: &mut Rng) -> Command {
     match session.choice {
         None => Command::Choose,
         Some(choice) if choice.row != IDLE && rng.chance(1, 8) => Command::Finish,
@@ -76,10 +89,81 @@ fn accepted_call(session: &Session, rng: &mut Rng, style: Style) -> Command {
     }
 }
 
-/// Whether a job that arrived now would share its deadline with another.
-fn meets_a_deadline(session: &Session, row: u32) -> bool {
-    let due = session.clock + u64::from(session.rows[row as usize].deadline);
-    session.waiting().any(|job| job.due == due)
+/// The rows that may arrive now.
+fn ready_rows(session: &Session) -> Vec<u32> {
+    (0..session.slots.len() as u32)
+        .filter(|row| session.slots[*row as usize].next <= session.clock)
+        .collect()
+}
+
+/// The rows whose job, if it arrived now, would share its deadline with
+/// another.
+fn meeting_rows(session: &Session) -> Vec<u32> {
+    let due = |row: u32| session.clock + u64::from(session.rows[row as usize].deadline);
+    let mut rows = ready_rows(session);
+    rows.retain(|row| session.waiting().any(|job| job.due == due(*row)));
+    rows
+}
+
+/// A command on the way to a moment at which deadlines meet, or at it.
+fn timed_command(machine: &Machine, rng: &mut Rng) -> Command {
+    let session = &machine.session;
+    let meeting = meeting_rows(session);
+    if !meeting.is_empty() {
+        return Command::Arrive(rng.pick(&meeting));
+    }
+    match (next_meeting(session), session.choice) {
+        (Some(_), None) => patient_command(machine, rng),
+        (Some(ticks), Some(choice)) => Command::Advance(choice.left.min(ticks) as u32),
+        // So that jobs of one deadline also wait until their budgets are spent.
+        (None, None) if deadlines_have_met(session) => patient_command(machine, rng),
+        (None, _) => first_arrival(session, rng),
+    }
+}
+
+/// Lets a job arrive whose deadline another can meet later; where there is
+/// none, any that may.
+fn first_arrival(session: &Session, rng: &mut Rng) -> Command {
+    let ready = ready_rows(session);
+    let mut first = ready.clone();
+    first.retain(|row| can_be_met(session, *row));
+    if !first.is_empty() {
+        Command::Arrive(rng.pick(&first))
+    } else if !ready.is_empty() {
+        Command::Arrive(rng.pick(&ready))
+    } else {
+        run_or_choose(session, rng)
+    }
+}
+
+/// Whether a job that arrived now could still be waiting when another arrives
+/// with its deadline: its budget lasts, or it does not run out.
+fn can_be_met(session: &Session, row: u32) -> bool {
+    let budget = session.full_budget(row as usize) as u64;
+    let longest_wait = budget.max(u64::from(session.rows[row as usize].run) - 1);
+    let mut later = session.clone();
+    perform_on_sound(&mut later, Call::Arrive(row));
+    next_meeting(&later).is_some_and(|ticks| ticks <= longest_wait)
+}
+
+/// A choice, mostly after a word that lets the last candidate run, so that the
+/// jobs before it still wait later. Once deadlines have met any word will do.
+fn patient_command(machine: &Machine, rng: &mut Rng) -> Command {
+    let Machine { session, words } = machine;
+    let last = candidates(session).len() as u32 - 1;
+    if last == 0 || !words.is_empty() || rng.chance(1, 8) {
+        Command::Choose
+    } else if deadlines_have_met(session) && rng.chance(1, 2) {
+        Command::Word(random_word(rng))
+    } else {
+        Command::Word(last)
+    }
+}
+
+fn deadlines_have_met(session: &Session) -> bool {
+    let mut due: Vec<u64> = session.waiting().map(|job| job.due).collect();
+    due.sort_unstable();
+    due.windows(2).any(|pair| pair[0] == pair[1])
 }
 
 /// Ticks from 1 to `left`, often up to a moment at which jobs can meet.
@@ -102,7 +186,18 @@ fn accepted_ticks(session: &Session, rng: &mut Rng, left: u64) -> u32 {
 /// Ticks below `left` after which a row may arrive for the first time, or may
 /// arrive with the deadline of a waiting job.
 fn meeting_ticks(session: &Session, left: u64) -> Vec<u64> {
-    let mut moments: Vec<u64> = session.slots.iter().map(|slot| slot.next).collect();
+    let nexts = session.slots.iter().map(|slot| slot.next);
+    nexts
+        .chain(meetings(session))
+        .filter_map(|moment| moment.checked_sub(session.clock))
+        .filter(|ticks| (1..left).contains(ticks))
+        .collect()
+}
+
+/// The moments at which a row may arrive with the deadline of a waiting job;
+/// some may be past.
+fn meetings(session: &Session) -> Vec<u64> {
+    let mut moments = Vec::new();
     for (row, slot) in session.rows.iter().zip(&session.slots) {
         let arrivals = session
             .waiting()
@@ -110,10 +205,14 @@ fn meeting_ticks(session: &Session, left: u64) -> Vec<u64> {
         moments.extend(arrivals.filter(|arrival| *arrival >= slot.next));
     }
     moments
+}
+
+/// Ticks to the next of these moments that is ahead.
+fn next_meeting(session: &Session) -> Option<u64> {
+    let ahead = meetings(session)
         .into_iter()
-        .filter_map(|moment| moment.checked_sub(session.clock))
-        .filter(|ticks| (1..left).contains(ticks))
-        .collect()
+        .filter(|moment| *moment > session.clock);
+    ahead.map(|moment| moment - session.clock).min()
 }
 
 /// A call that is refused more often than not.

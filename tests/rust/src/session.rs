@@ -77,6 +77,24 @@ impl Session {
             .filter(move |job| due.is_none_or(|due| job.due < due))
     }
 
+    /// When the waiting job of a row arrived: its deadline − D. Signed, since a
+    /// sound session may hold a job that came before tick 0.
+    pub fn arrival(&self, row: u32) -> Option<i128> {
+        let relative = self.rows.get(row as usize)?.deadline;
+        let due = self.job(row)?.due;
+        Some(i128::from(due) - i128::from(relative))
+    }
+
+    /// The rows of all waiting jobs in order: by deadline, then by arrival,
+    /// then by row number.
+    pub fn in_order(&self) -> Vec<u32> {
+        let mut places: Vec<(u64, i128, u32)> = (0..self.slots.len() as u32)
+            .filter_map(|row| Some((self.job(row)?.due, self.arrival(row)?, row)))
+            .collect();
+        places.sort_unstable();
+        places.into_iter().map(|(_, _, row)| row).collect()
+    }
+
     /// Soundness as the specification states it, for a session of any content.
     pub fn is_sound(&self) -> bool {
         self.kind_is_right() && self.fits_its_table()

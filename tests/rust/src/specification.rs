@@ -1,4 +1,5 @@
-//! The specification's own examples.
+//! The specification's own examples, and moments at which equal deadlines go by
+//! who came first (change request 01).
 
 use crate::table::Row;
 
@@ -75,5 +76,109 @@ pub const EXAMPLES: &[Example] = &[
         output: "0 M 0 1 16/0 B 0 0 0/0 B 0 1 0/0 B 0 2 0/0 B 0 3 0/0 B 0 4 0/0 B 0 5 0/\
             0 B 0 6 0/0 B 0 7 0/0 B 0 8 0/0 B 0 9 0/0 B 0 10 0/0 B 0 11 0/0 B 0 12 0/\
             0 B 0 13 0/0 B 0 14 0/0 B 0 15 0/",
+    },
+];
+
+/// A start after which two or more waiting jobs have one deadline, its output,
+/// and ways to go on, each with what it adds to the output; in the form of the
+/// listing.
+struct Tie {
+    input: &'static str,
+    output: &'static str,
+    ends: &'static [[&'static str; 2]],
+}
+
+/// The inputs in which deadlines are equal, each with its output.
+pub fn ties() -> Vec<(String, String)> {
+    let ends = TIES
+        .iter()
+        .flat_map(|tie| tie.ends.iter().map(move |end| (tie, end)));
+    ends.map(|(tie, [input, output])| {
+        let input = format!("{}{input}", tie.input);
+        let output = format!("{}{output}", tie.output);
+        (plain(&input), plain(&output))
+    })
+    .collect()
+}
+
+const TIES: &[Tie] = &[
+    // Row 1 arrives at 0, row 0 at 10, both for 20: row 1 is the head.
+    Tie {
+        input: "T 1 10 10/T 1 20 20/A 1/W 1/W 9/G/R 10/A 0/",
+        output: "0 M 0 1 2/0 B 0 0 8/0 B 0 1 17/0 A 0 1 20/0 G 0 16 10/10 R 0 0 0/10 A 0 0 20/",
+        ends: &[
+            ["G/", "10 G 0 1 1/"],
+            ["W 0/G/", "10 G 0 1 1/"],
+            ["W 1/G/", "10 G 0 0 1/"],
+            ["W 2/W 3/G/", "10 G 0 16 4/"],
+            [
+                "W 4/G/R 1/G/R 1/G/",
+                "10 G 0 0 1/11 R 0 0 1/11 G 0 1 1/12 R 0 0 1/12 G 0 16 1000000/",
+            ],
+        ],
+    },
+    // The same with the rows exchanged: here the row number agrees.
+    Tie {
+        input: "T 1 20 20/T 1 10 10/A 0/W 1/W 9/G/R 10/A 1/",
+        output: "0 M 0 1 2/0 B 0 0 17/0 B 0 1 8/0 A 0 0 20/0 G 0 16 10/10 R 0 0 0/10 A 0 1 20/",
+        ends: &[["G/", "10 G 0 0 1/"], ["W 1/G/", "10 G 0 1 1/"]],
+    },
+    // On the same tick the row number decides, whichever call came first.
+    Tie {
+        input: "T 2 10 10/T 2 10 10/A 1/A 0/",
+        output: "0 M 0 1 2/0 B 0 0 6/0 B 0 1 6/0 A 0 1 10/0 A 0 0 10/",
+        ends: &[["G/", "0 G 0 0 2/"], ["W 1/G/", "0 G 0 1 2/"]],
+    },
+    // Row 2 arrives at 0, row 0 at 10, row 1 at 20, all for 30.
+    Tie {
+        input: "T 1 20 20/T 1 10 10/T 1 30 30/A 2/W 1/W 9/G/R 10/A 0/W 2/W 9/G/R 10/A 1/",
+        output: "0 M 0 1 3/0 B 0 0 16/0 B 0 1 7/0 B 0 2 24/0 A 0 2 30/0 G 0 16 10/10 R 0 0 0/\
+            10 A 0 0 30/10 G 0 16 10/20 R 0 0 0/20 A 0 1 30/",
+        ends: &[
+            ["W 0/G/", "20 G 0 2 1/"],
+            ["W 1/G/", "20 G 0 0 1/"],
+            ["W 2/G/", "20 G 0 1 1/"],
+            ["W 3/W 9/G/", "20 G 0 16 2/"],
+            [
+                "G/R 1/G/R 1/G/R 1/",
+                "20 G 0 2 1/21 R 0 0 1/21 G 0 0 1/22 R 0 0 1/22 G 0 1 1/23 R 0 0 1/",
+            ],
+        ],
+    },
+    // A job of an earlier deadline comes before both.
+    Tie {
+        input: "T 1 10 10/T 1 20 20/T 1 100 9/A 1/W 1/W 9/G/R 10/A 0/A 2/",
+        output: "0 M 0 1 3/0 B 0 0 7/0 B 0 1 16/0 B 0 2 6/0 A 0 1 20/0 G 0 16 10/10 R 0 0 0/\
+            10 A 0 0 20/10 A 0 2 19/",
+        ends: &[
+            ["G/", "10 G 0 2 1/"],
+            ["W 1/W 0/G/", "10 G 0 1 1/"],
+            ["W 2/W 0/G/", "10 G 0 0 1/"],
+        ],
+    },
+    // The first to come has spent its budget, so it is the only candidate.
+    Tie {
+        input: "T 1 10 10/T 8 20 20/A 1/W 1/W 9/G/R 10/A 0/",
+        output: "0 M 0 1 2/0 B 0 0 1/0 B 0 1 10/0 A 0 1 20/0 G 0 16 10/10 R 0 0 0/10 A 0 0 20/",
+        ends: &[["W 1/G/R 8/G/", "10 G 0 1 8/18 R 0 0 1/18 G 0 16 1/"]],
+    },
+    // Whichever of the two runs, the other's budget of 2 neither limits its
+    // span of 4 nor is charged for it.
+    Tie {
+        input: "T 4 50 10/T 4 50 20/A 1/W 1/W 9/G/R 10/A 0/",
+        output: "0 M 0 1 2/0 B 0 0 2/0 B 0 1 12/0 A 0 1 20/0 G 0 16 10/10 R 0 0 0/10 A 0 0 20/",
+        ends: &[
+            ["W 1/W 1/G/R 4/G/", "10 G 0 0 4/14 R 0 0 1/14 G 0 16 2/"],
+            ["W 0/W 1/G/R 4/G/", "10 G 0 1 4/14 R 0 0 1/14 G 0 16 2/"],
+        ],
+    },
+    // Tight: row 1 has run for two ticks when row 0 arrives for its deadline.
+    Tie {
+        input: "T 2 4 4/T 3 6 6/A 1/G/R 2/A 0/",
+        output: "0 M 0 2 2/0 B 0 0 -1/0 B 0 1 -1/0 A 0 1 6/0 G 0 1 3/2 R 0 1 0/2 A 0 0 6/",
+        ends: &[
+            ["G/", "2 G 0 1 1/"],
+            ["W 1/W 1/G/R 1/G/", "2 G 0 1 1/3 R 0 0 1/3 G 0 0 2/"],
+        ],
     },
 ];

@@ -1,7 +1,7 @@
 //! Random task tables of every kind.
 
 use crate::rng::Rng;
-use crate::table::{admit_rows, Row, HORIZON, ROW_LIMIT};
+use crate::table::{admit_rows, Kind, Row, HORIZON, ROW_LIMIT};
 
 /// Makes a table at random.
 pub type RowMaker = fn(&mut Rng) -> Vec<Row>;
@@ -83,6 +83,34 @@ pub fn full_rows(rng: &mut Rng) -> Vec<Row> {
     rows
 }
 
+/// Rows of different deadlines, close enough together that a job can still
+/// wait when one of another row arrives with its deadline. Most tables have the
+/// longest deadline last, so that the later row arrives first.
+pub fn staggered_rows(rng: &mut Rng) -> Vec<Row> {
+    let most_rows = rng.pick(&[3, 6, ROW_LIMIT as u32]);
+    let count = rng.between(2, most_rows);
+    let longest = rng.pick(&[4 * count, 10 * count, 1_000, 100_000, LONGEST]);
+    let shortest = rng.pick(&[longest / 4, longest / 2, longest - longest / 16 - 2]);
+    // A share of all the time, up to all of it.
+    let load = rng.pick(&[1, 4, 8]);
+    let mut rows: Vec<Row> = (0..count)
+        .map(|_| {
+            let deadline = rng.between(shortest, longest);
+            let run = rng.between(1, (deadline * load / (8 * count)).max(1));
+            let period = match rng.below(3) {
+                0 => rng.between(deadline, LONGEST.min(4 * longest)),
+                1 => rng.between(deadline, longest),
+                _ => deadline,
+            };
+            row(run, period, deadline)
+        })
+        .collect();
+    if rng.chance(2, 3) {
+        rows.sort_by_key(|row| row.deadline);
+    }
+    rows
+}
+
 /// One short row and one long one that together fill the processor: the busy
 /// length comes near the horizon or passes it.
 pub fn long_busy_rows(rng: &mut Rng) -> Vec<Row> {
@@ -143,6 +171,16 @@ pub fn any_rows(rng: &mut Rng) -> Vec<Row> {
         unlawful_rows,
     ];
     rng.pick(&makers)(rng)
+}
+
+/// Tables of one maker until one is admitted as this kind.
+pub fn admitted_as(rng: &mut Rng, make: RowMaker, kind: Kind) -> Vec<Row> {
+    loop {
+        let rows = admitted(rng, make);
+        if admit_rows(&rows).is_ok_and(|table| table.kind == kind) {
+            return rows;
+        }
+    }
 }
 
 /// Tables of one maker until one is admitted.

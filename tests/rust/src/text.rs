@@ -138,6 +138,12 @@ impl Machine {
 
 /// The output for an input.
 pub fn run(input: &[u8]) -> Vec<u8> {
+    run_watched(input, |_, _| {})
+}
+
+/// The output for an input; `watch` sees each command after the table, and the
+/// machine before it.
+pub fn run_watched(input: &[u8], watch: impl FnMut(&Machine, Command)) -> Vec<u8> {
     let mut output = Vec::new();
     let rows = leading_rows(input);
     match admit_rows(&rows) {
@@ -148,7 +154,7 @@ pub fn run(input: &[u8]) -> Vec<u8> {
         Ok(table) => {
             print_table(&mut output, &table);
             let rest = lines(input).zip(1..).skip(rows.len());
-            run_calls(&mut output, Machine::new(table), rest);
+            run_calls(&mut output, Machine::new(table), rest, watch);
         }
     }
     output
@@ -167,10 +173,13 @@ fn run_calls<'a>(
     output: &mut Vec<u8>,
     mut machine: Machine,
     lines: impl Iterator<Item = (&'a [u8], u64)>,
+    mut watch: impl FnMut(&Machine, Command),
 ) {
     for (line, line_number) in lines {
-        let outcome =
-            read_line(line).map_or(Outcome::Unreadable, |command| machine.execute(command));
+        let outcome = read_line(line).map_or(Outcome::Unreadable, |command| {
+            watch(&machine, command);
+            machine.execute(command)
+        });
         let clock = machine.session.clock;
         match outcome {
             Outcome::Silent => {}

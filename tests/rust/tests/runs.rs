@@ -5,8 +5,11 @@ use shuffle_model::rng::Rng;
 use shuffle_model::runs::{random_command, Style};
 use shuffle_model::session::IDLE;
 use shuffle_model::table::Row;
-use shuffle_model::tables::{admitted, full_rows, light_rows, small_rows, RowMaker};
+use shuffle_model::tables::{
+    admitted, full_rows, light_rows, small_rows, staggered_rows, RowMaker,
+};
 use shuffle_model::text::{Command, Outcome};
+use shuffle_model::ties::Ties;
 
 struct Entry {
     row: usize,
@@ -72,6 +75,20 @@ impl Ledger {
         }
     }
 
+    /// The rows of the jobs that are not over: by deadline, then by arrival,
+    /// then by row number.
+    fn order(&self) -> Vec<u32> {
+        let waiting = self.entries.iter().filter(|entry| entry.end.is_none());
+        let mut places: Vec<_> = waiting
+            .map(|entry| {
+                let due = entry.arrival + u64::from(self.rows[entry.row].deadline);
+                (due, entry.arrival, entry.row as u32)
+            })
+            .collect();
+        places.sort_unstable();
+        places.into_iter().map(|(_, _, row)| row).collect()
+    }
+
     fn no_job_is_late(&self) -> bool {
         self.entries.iter().all(|entry| {
             let due = entry.arrival + u64::from(self.rows[entry.row].deadline);
@@ -84,12 +101,13 @@ impl Ledger {
 }
 
 /// Runs random calls and checks ledger and session after each.
-fn check_run(rng: &mut Rng, rows: &[Row], steps: usize) {
+fn check_run(rng: &mut Rng, rows: &[Row], style: Style, steps: usize) -> Ties {
     let mut driver = Driver::new(rows);
     let mut ledger = Ledger::new(rows);
-    let style = Style::random(rng);
+    let mut ties = Ties::default();
     for _ in 0..steps {
         let command = random_command(&driver.machine, rng, style);
+        ties.watch(&driver.machine, command);
         let before = driver.machine.session.clone();
         if let Outcome::Answered(_, answer) = driver.push(command) {
             if answer.number == 0 {
@@ -101,31 +119,43 @@ fn check_run(rng: &mut Rng, rows: &[Row], steps: usize) {
         let text = String::from_utf8_lossy(&driver.text);
         assert_eq!(driver.machine.session.clock, ledger.clock, "{text}");
         assert!(driver.machine.session.is_sound(), "{text}");
+        assert_eq!(driver.machine.session.in_order(), ledger.order(), "{text}");
         assert!(ledger.no_job_is_late(), "{text}");
     }
+    ties
 }
 
-fn check_runs(make: RowMaker, runs: usize) {
+/// Checks runs, and says how many of them showed a tie that arrival decides
+/// against the row number.
+fn check_runs(make: RowMaker, style: fn(&mut Rng) -> Style, runs: usize) -> usize {
     let mut rng = Rng::new(5);
-    for _ in 0..runs {
+    let shown = (0..runs).filter(|_| {
         let rows = admitted(&mut rng, make);
-        check_run(&mut rng, &rows, 200);
-    }
+        let style = style(&mut rng);
+        check_run(&mut rng, &rows, style, 200).shown
+    });
+    shown.count()
 }
 
 #[test]
 fn no_job_is_late_on_small_tables() {
-    check_runs(small_rows, 1_000);
+    check_runs(small_rows, Style::random, 1_000);
 }
 
 #[test]
 fn no_job_is_late_at_full_load() {
-    check_runs(full_rows, 300);
+    check_runs(full_rows, Style::random, 300);
 }
 
 #[test]
 fn no_job_is_late_on_light_tables() {
-    check_runs(light_rows, 100);
+    check_runs(light_rows, Style::random, 100);
+}
+
+#[test]
+fn no_job_is_late_where_deadlines_meet() {
+    let shown = check_runs(staggered_rows, Style::meeting, 500);
+    assert!(shown > 300, "{shown} of 500 show a tie");
 }
 
 #[test]

@@ -236,6 +236,9 @@ fn choice_keeps_to_the_budgets_of_earlier_jobs() {
     // A job of equal deadline is not earlier: row 0 arrived at 2 for 12.
     let equal = with(spent(0, 0), |session| session.slots[1] = slot(17, 12, 3, 8));
     assert_all(true, vec![choosing(equal, 1, 3)]);
+    // Nor is one that also arrived earlier: row 1 at −3.
+    let equal = with(loose(), |session| session.slots[1] = slot(17, 12, 3, 0));
+    assert_all(true, vec![choosing(equal, 0, 2)]);
 }
 
 #[test]

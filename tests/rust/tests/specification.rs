@@ -3,7 +3,7 @@
 use shuffle_model::calls::candidates;
 use shuffle_model::driver::table_text;
 use shuffle_model::session::{Job, Session, Slot, IDLE};
-use shuffle_model::specification::{listing, plain, EXAMPLES};
+use shuffle_model::specification::{listing, plain, ties, EXAMPLES};
 use shuffle_model::table::{admit, busy_length, demand, overloads_by_scan, Refusal, Row};
 use shuffle_model::text::run;
 
@@ -15,6 +15,14 @@ fn rows(numbers: &[[u32; 3]]) -> Vec<Row> {
 fn listing_is_reproduced() {
     let (input, output) = listing();
     assert_eq!(String::from_utf8(run(input.as_bytes())).unwrap(), output);
+}
+
+#[test]
+fn equal_deadlines_go_by_who_came_first() {
+    for (input, output) in ties() {
+        let actual = String::from_utf8(run(input.as_bytes())).unwrap();
+        assert_eq!(actual, output, "{input}");
+    }
 }
 
 #[test]
@@ -66,7 +74,8 @@ fn first_unlawful_row_is_named() {
     assert_eq!(admit(&[2, 3, 2, 3, 5, 2, 0, 0, 0, 2, 3, 2]), Err(refusal));
 }
 
-/// A sound session with jobs of the given deadlines and budgets, all waiting.
+/// A sound session with jobs of the given deadlines and budgets, all waiting;
+/// all arrived on tick 0.
 fn waiting(jobs: &[(u32, i64)]) -> Session {
     let numbers: Vec<u32> = jobs.iter().flat_map(|(due, _)| [1, 100, *due]).collect();
     let mut session = Session::new(admit(&numbers).unwrap());
@@ -87,7 +96,9 @@ fn waiting(jobs: &[(u32, i64)]) -> Session {
 
 #[test]
 fn spent_budget_at_an_equal_deadline_bars_later_jobs() {
-    assert_eq!(candidates(&waiting(&[(10, 3), (10, 0), (20, 4)])), [0, 1]);
+    let session = waiting(&[(10, 3), (10, 0), (20, 4)]);
+    assert_eq!([0, 1].map(|row| session.arrival(row)), [Some(0); 2]);
+    assert_eq!(candidates(&session), [0, 1]);
 }
 
 #[test]

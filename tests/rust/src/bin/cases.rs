@@ -10,27 +10,34 @@ use std::path::Path;
 use shuffle_model::damage::DAMAGES;
 use shuffle_model::driver::table_text;
 use shuffle_model::inputs::{
-    full_run, light_run, odd_number_input, short_run, small_run, ODD_LINES, ODD_NUMBERS, SPECIALS,
+    full_run, light_run, odd_number_input, short_run, short_ties, small_run, ODD_LINES,
+    ODD_NUMBERS, SPECIALS,
 };
 use shuffle_model::options::fail;
 use shuffle_model::rng::Rng;
-use shuffle_model::specification::{listing, plain, EXAMPLES};
+use shuffle_model::specification::{listing, plain, ties, EXAMPLES};
 use shuffle_model::table::{admit_rows, compared_range, overloads_by_scan, Row};
 use shuffle_model::tables::{light_rows, urgent_rows, RowMaker};
-use shuffle_model::text::{leading_rows, run};
+use shuffle_model::text::{leading_rows, run, run_watched};
+use shuffle_model::ties::Ties;
 
 const SEED: u64 = 7;
 const CASES: usize = 400;
 const LONGEST_CASE: usize = 3_999;
 const LONGEST_RANDOM_CASE: usize = 500;
 const LONGEST_STDIN: usize = 60_000;
+/// So many cases must show that arrival decides a tie against the row number.
+const LEAST_TIES: usize = 60;
 
 fn main() -> io::Result<()> {
     let arguments: Vec<String> = std::env::args().skip(1).collect();
     let [directory] = arguments.as_slice() else {
         fail("usage: cases DIR");
     };
-    let (stdin, stdout) = store(&all_cases());
+    let cases = all_cases();
+    let ties = cases.iter().filter(|case| shows_a_tie(case)).count();
+    assert!(ties >= LEAST_TIES, "{ties} cases show a tie");
+    let (stdin, stdout) = store(&cases);
     assert!(stdin.len() < LONGEST_STDIN, "{} bytes", stdin.len());
     fs::write(Path::new(directory).join("stdin"), stdin)?;
     fs::write(Path::new(directory).join("stdout"), stdout)
@@ -56,7 +63,13 @@ fn all_cases() -> Vec<Vec<u8>> {
     cases.extend(damaged_cases(&mut rng, 3));
     cases.retain(|case| case.len() <= LONGEST_CASE && has_one_output(case));
     while cases.len() < CASES {
-        let make = rng.pick(&[light_run, small_run, small_run, full_run, short_run]);
+        let make = match rng.below(9) {
+            0 => light_run,
+            1 | 2 => small_run,
+            3 => full_run,
+            4 => short_run,
+            _ => short_ties,
+        };
         let case = make(&mut rng);
         if case.len() <= LONGEST_RANDOM_CASE && has_one_output(&case) {
             cases.push(case);
@@ -76,8 +89,9 @@ fn fixed_cases() -> Vec<Vec<u8>> {
     let each_line = ODD_LINES.iter().map(|line| (line, &"4294967296"));
     let odd = each_number.chain(each_line);
     let odd = odd.map(|(line, number)| odd_number_input(line, number));
+    let ties = ties().into_iter().map(|(input, _)| input.into_bytes());
     let fixed = listing.chain(tables).chain(texts).chain(many_rows);
-    fixed.chain(odd).collect()
+    fixed.chain(odd).chain(ties).collect()
 }
 
 /// One input for each refusal of the four calls, and what is accepted next.
@@ -89,6 +103,12 @@ const REFUSALS: &[&str] = &[
     "T 2 10 10/A 0/G/R 0/R 3/R 1/R 2/R 4294967295/R 1/R 1/",
     "T 2 10 10/G/F/A 0/F/G/F/F/",
 ];
+
+fn shows_a_tie(case: &[u8]) -> bool {
+    let mut ties = Ties::default();
+    run_watched(case, |machine, command| ties.watch(machine, command));
+    ties.shown
+}
 
 /// Whether the output is determined: refusal 3 may name any overloaded tick.
 fn has_one_output(case: &[u8]) -> bool {

@@ -12,10 +12,12 @@ use shuffle_model::rng::Rng;
 use shuffle_model::shrink::shrink;
 use shuffle_model::table::{compared_range, demand};
 use shuffle_model::tally::Tally;
-use shuffle_model::text::{leading_rows, run};
+use shuffle_model::text::{leading_rows, run, run_watched};
+use shuffle_model::ties::{TieTally, Ties};
 
 const THREADS: usize = 2;
-/// From this many inputs on, every reachable answer must have been reached.
+/// From this many inputs on, every reachable answer must have been reached, and
+/// ties that arrival decides must be many enough.
 const FULL_COUNT: u64 = 20_000;
 const DEFAULT_SEED: u64 = 20_250_301;
 
@@ -38,7 +40,8 @@ fn main() {
         report.summary(),
         start.elapsed().as_secs_f64()
     );
-    let gaps = report.answers.gaps();
+    let mut gaps = report.answers.gaps();
+    gaps.extend(report.ties.gaps());
     if count >= FULL_COUNT && !gaps.is_empty() {
         println!("FAILED: {}", gaps.join(", "));
         exit(1);
@@ -87,13 +90,15 @@ impl<'a> Shared<'a> {
                 break;
             }
             let (kind, input) = random_input(&mut Rng::for_case(self.seed, case));
-            let expected = run(&input);
+            let mut ties = Ties::default();
+            let expected = run_watched(&input, |machine, command| ties.watch(machine, command));
             if fault(self.program, &input, &expected).is_some() {
                 report.disagreement = Some(case);
                 self.stop.store(true, Ordering::Relaxed);
             }
             report.inputs[kind] += 1;
             report.answers.add(&expected);
+            report.ties.add(ties);
         }
         report
     }
@@ -103,6 +108,7 @@ impl<'a> Shared<'a> {
 struct Report {
     inputs: [u64; KINDS.len()],
     answers: Tally,
+    ties: TieTally,
     disagreement: Option<u64>,
 }
 
@@ -112,6 +118,7 @@ impl Report {
             *sum += inputs;
         }
         self.answers.merge(other.answers);
+        self.ties.merge(other.ties);
         // The lowest case, so that equal seeds show equal disagreements.
         let found = self.disagreement.into_iter().chain(other.disagreement);
         self.disagreement = found.min();
@@ -123,11 +130,12 @@ impl Report {
             .map(|(kind, inputs)| format!("{} {inputs}", kind.name))
             .collect();
         format!(
-            "{} inputs agree ({}); {} output lines; answers {}",
+            "{} inputs agree ({}); {} output lines; answers {}; {}",
             self.inputs.iter().sum::<u64>(),
             by_kind.join(", "),
             self.answers.lines(),
-            self.answers
+            self.answers,
+            self.ties
         )
     }
 }

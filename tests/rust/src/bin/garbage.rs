@@ -14,11 +14,14 @@ use shuffle_model::shuffle::{budget, Reply, Session as Record};
 use shuffle_model::table::Row;
 use shuffle_model::tables::{any_rows, long_busy_rows};
 use shuffle_model::text::{Command, Machine};
+use shuffle_model::ties::{is_shown, tied_rows};
 
 const DEFAULT_CALLS: u64 = 1_000_000;
 const DEFAULT_SEED: u64 = 20_250_301;
 /// The answer numbers of the library: 0 to 12.
 const NUMBERS: usize = 13;
+/// From this many calls on, each sort of tie must have been reached.
+const FULL_CALLS: u64 = 1_000_000;
 /// Most calls of a history.
 const STEPS: u32 = 400;
 
@@ -44,6 +47,7 @@ fn main() {
         rng: Rng::new(options.number("--seed", DEFAULT_SEED)),
         counts: [[0; NUMBERS]; SOURCES.len()],
         sound: 0,
+        ties: Ties::default(),
     };
     while test.calls() < calls {
         test.round();
@@ -55,6 +59,46 @@ fn main() {
         println!("FAILED: never reached: {missing:?}");
         exit(1);
     }
+    let gaps = test.ties.gaps();
+    if calls >= FULL_CALLS && !gaps.is_empty() {
+        println!("FAILED: never reached: {}", gaps.join(", "));
+        exit(1);
+    }
+}
+
+/// Accepted choices with a tie that arrival decides against the row number.
+#[derive(Default)]
+struct Ties {
+    reached: u64,
+    /// Those in which a tied job arrived before tick 0.
+    below_zero: u64,
+    /// Those that deadline and row number alone would answer otherwise.
+    shown: u64,
+}
+
+impl Ties {
+    /// Counts an accepted call.
+    fn add(&mut self, before: &Record, request: &Request) {
+        let (Request::Choose(words), Some(session)) = (request, view(before)) else {
+            return;
+        };
+        let rows = tied_rows(&session);
+        let arrivals = rows.iter().filter_map(|row| session.arrival(*row));
+        let is_below_zero = arrivals.min().is_some_and(|first| first < 0);
+        self.reached += u64::from(!rows.is_empty());
+        self.below_zero += u64::from(is_below_zero);
+        self.shown += u64::from(!rows.is_empty() && is_shown(&session, words));
+    }
+
+    fn gaps(&self) -> Vec<&'static str> {
+        let counts = [
+            (self.reached, "a tie that arrival decides"),
+            (self.below_zero, "one with an arrival below 0"),
+            (self.shown, "one that the answer shows"),
+        ];
+        let gaps = counts.into_iter().filter(|(count, _)| *count == 0);
+        gaps.map(|(_, name)| name).collect()
+    }
 }
 
 struct Test {
@@ -63,6 +107,7 @@ struct Test {
     counts: [[u64; NUMBERS]; SOURCES.len()],
     /// Calls on sound records.
     sound: u64,
+    ties: Ties,
 }
 
 impl Test {
@@ -197,6 +242,9 @@ impl Test {
         }
         self.counts[source as usize][reply.number as usize] += 1;
         self.sound += u64::from(was_sound);
+        if reply.is_accepted() {
+            self.ties.add(&before, request);
+        }
         reply
     }
 
@@ -204,11 +252,16 @@ impl Test {
         let sources = SOURCES.map(|(source, name)| format!("{name} {}", self.calls_of(source)));
         let answers = (0..NUMBERS).map(|number| format!("{number}:{}", self.count_of(number)));
         format!(
-            "{} calls agree ({}; {} on sound records); answers {}",
+            "{} calls agree ({}; {} on sound records); answers {}; arrival decides a tie against \
+            the row number in {} choices, {} of them with an arrival below 0, and {} show it in \
+            the answer",
             self.calls(),
             sources.join(", "),
             self.sound,
-            answers.collect::<Vec<_>>().join(" ")
+            answers.collect::<Vec<_>>().join(" "),
+            self.ties.reached,
+            self.ties.below_zero,
+            self.ties.shown
         )
     }
 }
