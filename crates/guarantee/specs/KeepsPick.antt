@@ -39,7 +39,7 @@ module _ (s : Session) (few : s .count ≤ 16) where
   unfolding waits ahead
   idle-may h = record { some = omega arith; small = omega arith; runs = inl refl; affords = h }
 
-  pub permits-at : (c : ℕ) → permits s c ≡ true → (j : ℕ) → j < s .count → ahead s c j ≡ true → 1 ≤ jobAt s j .budget
+  permits-at : (c : ℕ) → permits s c ≡ true → (j : ℕ) → j < s .count → ahead s c j ≡ true → 1 ≤ jobAt s j .budget
   unfolding permits
   permits-at c h j l a =
       ltb-true 0 (jobAt s j .budget)

@@ -1,25 +1,23 @@
 -- In a tight session the head is the only candidate (docs/SPECIFICATION.md §5.4). Assumes nothing.
 use Prim.Native.Nat.{ℕ, _<_}
-use mathlib.Core.Path.{_≡_, refl, sym, _∙_}
+use mathlib.Core.Path.{_≡_, sym, _∙_}
 use mathlib.Core.Bool.{true, false, not, true≢false}
 use mathlib.Core.List.{List}
 use mathlib.Core.Logic.{dite, ⊎-elim}
 use native.Mathlib.Omega.{arith}
 use native.Mathlib.Decide.{decLt}
-use lib.Dec.{eqb}
-use borrow.Author.Tests.{lt-ltb, le-ltb, lt-leb, eq-eqb, ne-eqb}
-use Rattle.bounded.specs.Tests.{both, gate, gate-on, gate-off}
-use Rattle.bounded.specs.Sum.{sum-eq-at, sum-zero}
+use borrow.Author.Tests.{lt-ltb, lt-leb}
+use Rattle.bounded.specs.Tests.{both, gate, gate-off}
 use Rattle.bounded.specs.All.{all-of}
 use Rattle.session.specs.declared.Session.{Session}
-use Rattle.session.specs.Reading.{idle, jobAt, waits, ahead, startBy, startBudget}
-use Rattle.session.specs.Order.{headOf, permits, candidate, candidates}
+use Rattle.session.specs.Reading.{jobAt, ahead, startBy, startBudget}
+use Rattle.session.specs.Order.{headOf, candidates}
 use Rattle.session.specs.First.{none-waits, head-waits, head-least}
+use Rattle.session.specs.Alone.{only-row, not-idle, one-candidate}
 use Rattle.session.specs.Choose.{drawn, pickOf, room, unopposed, lengthDrawn, spanOf, pickUsed, usedOf}
 use Rattle.session.specs.Facts.{Facts, facts-of}
 use Rattle.guarantee.specs.Statement.{TightHead}
-use Rattle.guarantee.specs.KeepsSound.{ahead-waits, ahead-earlier, idle-ahead}
-use Rattle.guarantee.specs.KeepsPick.{permits-at}
+use Rattle.guarantee.specs.KeepsSound.{ahead-waits, ahead-earlier}
 use Rattle.guarantee.specs.Exact.{row-room}
 
 module _ (s : Session) (f : Facts s) (tight : s .kind ≡ 2) (h : headOf s < s .count) where
@@ -27,32 +25,6 @@ module _ (s : Session) (f : Facts s) (tight : s .kind ≡ 2) (h : headOf s < s .
   spent : jobAt s (headOf s) .budget ≡ 0
   unfolding startBudget startBy
   spent = omega (arith, simp tight at (f .job (headOf s) h (head-waits s h) .budget))
-
-  only-row : (i : ℕ) → i < s .count → candidate s i ≡ eqb i (headOf s)
-  unfolding candidate
-  only-row i l =
-      both (waits s i)
-      (λ w. simp (w, le-ltb 0 (jobAt s (headOf s) .budget) (omega (arith, spent)))
-      (both (eqb i (headOf s)) (λ e. simp e) (λ e. simp e)))
-      (λ w. simp (w, ne-eqb i (headOf s) (λ e. true≢false (sym (head-waits s h) ∙ rw e at w))))
-
-  not-idle : permits s idle ≡ false
-  not-idle =
-      both (permits s idle)
-      (λ p. absurd (omega (arith, spent, permits-at s (f .few) idle p (headOf s) h (idle-ahead s idle (headOf s) refl (head-waits s h)))))
-      (λ p. p)
-
-  one : candidates s ≡ 1
-  unfolding candidates
-  one =
-      omega (
-        arith,
-        sum-eq-at (λ i. gate (candidate s i) 1) (λ i. 0) (s .count) (headOf s) h
-            (λ i l ne. gate-off (candidate s i) 1 (only-row i l ∙ ne-eqb i (headOf s) ne)),
-        sum-zero (λ i. 0) (s .count) (λ i l. refl),
-        gate-on (candidate s (headOf s)) 1 (only-row (headOf s) h ∙ eq-eqb (headOf s) (headOf s) refl),
-        gate-off (permits s idle) 1 not-idle,
-      )
 
   -- no job loses budget while the head runs
   none-ahead : (j : ℕ) → j < s .count → ahead s (headOf s) j ≡ false
@@ -73,7 +45,7 @@ module _ (s : Session) (f : Facts s) (tight : s .kind ≡ 2) (h : headOf s < s .
   module _ (l : List ℕ) where
     not-drawn : drawn s l ≡ false
     unfolding drawn
-    not-drawn = simp (lt-ltb (headOf s) (s .count) h, lt-leb 2 (candidates s) (omega (arith, one)))
+    not-drawn = simp (lt-ltb (headOf s) (s .count) h, lt-leb 2 (candidates s) (omega (arith, one-candidate s h spent)))
 
     head-picked : pickOf s l ≡ headOf s
     unfolding pickOf
@@ -99,9 +71,9 @@ tight-head s e tight i l w =
     (λ h.
     let f = facts-of s e in
     record {
-      row = only-row s f tight h;
-      notIdle = not-idle s f tight h;
-      number = one s f tight h;
+      row = only-row s h (spent s f tight h);
+      notIdle = not-idle s h (spent s f tight h);
+      number = one-candidate s h (spent s f tight h);
       pick = head-picked s f tight h;
       span = head-span s f tight h;
       used = no-word s f tight h;

@@ -3,6 +3,7 @@ pub mod Sound
 pub mod Order
 pub mod Before
 pub mod First
+pub mod Alone
 pub mod Choose
 pub mod Calls
 pub mod Admit
