@@ -1,10 +1,8 @@
 -- Differences of numbers, over the integers: which of two is the less; and a - b - c as an i64. Assumes nothing.
-use Prim.Native.Nat.{ℕ, zero, suc, _+_, _-_, _≤_, _<_, _^_}
+use Prim.Native.Nat.{ℕ, zero, suc, _+_, _-_, _<_, _^_}
 use mathlib.Core.Bool.{Bool, true, false, true≢false}
 use mathlib.Core.Path.{_≡_, refl, sym, ap, _∙_}
-use mathlib.Core.Logic.{dite}
 use native.Mathlib.Omega.{arith}
-use native.Mathlib.Decide.{decLt}
 use lib.IntN.{ℤ, pos, negsuc, subℕ, _+ℤ_, _-ℤ_, negℤ, natAbs, +ℤ-assoc, negℤ-+ℤ}
 use lib.Signed.{ltZ, nonNeg}
 use lib.Dec.{T, ltb}
@@ -13,7 +11,7 @@ use mir.Syntax.{w64}
 use mir.Val.{Fits, SFits, toZ, ofZ}
 use mir.ValLaws.{toZ-pos}
 use mir.Facts.{toZ-ofZ}
-use Rattle.bounded.specs.Tests.{both}
+use Rattle.bounded.specs.Tests.{both, ltb-same}
 
 abbrev pub difference : ℕ → ℕ → ℕ → ℤ
 difference a b c = pos a -ℤ pos b -ℤ pos c
@@ -49,17 +47,13 @@ less-sub a b c d =
     (λ e.
     let p = ltb-true a b e in
     both (ltb c d)
-    (λ f. let q = ltb-true c d f in simp (e, f) (less-same (d - suc c) (b - suc a) (a + d) (c + b) (omega arith) (omega arith)))
+    (λ f. let q = ltb-true c d f in simp (e, f) (ltb-same (d - suc c) (b - suc a) (a + d) (c + b) (omega arith) (omega arith)))
     (λ f. let q = ltb-false c d f in simp (e, f) (sym (lt-ltb (a + d) (c + b) (omega arith)))))
     (λ e.
     let p = ltb-false a b e in
     both (ltb c d)
     (λ f. let q = ltb-true c d f in simp (e, f) (sym (le-ltb (a + d) (c + b) (omega arith))))
-    (λ f. let q = ltb-false c d f in simp (e, f) (less-same (a - b) (c - d) (a + d) (c + b) (omega arith) (omega arith))))
-  where
-    less-same : (x y z w : ℕ) → (x < y → z < w) → (y ≤ x → w ≤ z) → ltb x y ≡ ltb z w
-    less-same x y z w g h =
-        dite (decLt x y) (λ l. lt-ltb x y l ∙ sym (lt-ltb z w (g l))) (λ l. le-ltb x y (omega arith) ∙ sym (le-ltb z w (h (omega arith))))
+    (λ f. let q = ltb-false c d f in simp (e, f) (ltb-same (a - b) (c - d) (a + d) (c + b) (omega arith) (omega arith))))
 
 pub difference-less : (a b c d : ℕ) → ltZ (pos a -ℤ pos b) (pos c -ℤ pos d) ≡ ltb (a + d) (c + b)
 difference-less a b c d = rw (pos-sub a b, pos-sub c d) (less-sub a b c d)

@@ -1,9 +1,12 @@
 -- A test's two outcomes, and a number that counts only where a test passes. Assumes nothing.
-use Prim.Native.Nat.{ℕ, _≤_}
-use mathlib.Core.Path.{_≡_, refl}
+use Prim.Native.Nat.{ℕ, _≤_, _<_}
+use mathlib.Core.Path.{_≡_, refl, sym, _∙_}
 use mathlib.Core.Bool.{Bool, true, false, not, _&&_, _||_, false≢true}
-use mathlib.Core.Logic.{_⊎_, inl, inr}
+use mathlib.Core.Logic.{dite, _⊎_, inl, inr}
 use native.Mathlib.Omega.{arith}
+use native.Mathlib.Decide.{decLt}
+use lib.Dec.{ltb}
+use borrow.Author.Tests.{lt-ltb, le-ltb}
 
 -- each outcome with its equation
 pub both : {P : Type 0} (b : Bool) → (b ≡ true → P) → (b ≡ false → P) → P
@@ -31,6 +34,11 @@ then-so false b h = refl
 pub or-true : (a b : Bool) → (a || b) ≡ true → (a ≡ true) ⊎ (b ≡ true)
 or-true true b e = inl refl
 or-true false b e = inr e
+
+-- two comparisons with the same outcome
+pub ltb-same : (x y z w : ℕ) → (x < y → z < w) → (y ≤ x → w ≤ z) → ltb x y ≡ ltb z w
+ltb-same x y z w g h =
+    dite (decLt x y) (λ l. lt-ltb x y l ∙ sym (lt-ltb z w (g l))) (λ l. le-ltb x y (omega arith) ∙ sym (le-ltb z w (h (omega arith))))
 
 -- x where the test passes, and 0 where it fails
 unfoldable pub gate : Bool → ℕ → ℕ
