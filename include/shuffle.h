@@ -107,7 +107,7 @@ typedef struct shuffle_job {
     uint64_t next;   /* the earliest next arrival */
     uint64_t due;    /* the waiting job's deadline */
     uint64_t left;   /* its remaining ticks; 0: no job of the row waits */
-    uint64_t budget; /* its budget left: how long later jobs and idle may still run before it */
+    uint64_t budget; /* its budget left: how long later jobs and idle may still run before it; at most D - C */
 } shuffle_job;
 
 /*
@@ -159,10 +159,11 @@ shuffle_reply shuffle_choose(shuffle_session *session, const uint32_t *words, si
 shuffle_reply shuffle_advance(shuffle_session *session, uint64_t n);
 
 /*
- * The chosen job has finished early, and the choice ends. A job that is done on
- * the very last tick of its span, before C ticks, has no choice in force, so
- * this answers 9: finish it as soon as it is chosen again, before any tick
- * passes. Refusals: 5, 9, 11.
+ * The chosen job has finished early, and the choice ends. In a loose session the
+ * waiting jobs of strictly later deadline gain its unused ticks as budget, each
+ * up to its D - C. A job that is done on the very last tick of its span, before
+ * C ticks, has no choice in force, so this answers 9: finish it as soon as it is
+ * chosen again, before any tick passes. Refusals: 5, 9, 11.
  */
 shuffle_reply shuffle_finish(shuffle_session *session);
 

@@ -62,7 +62,7 @@ pub struct Job {
     pub due: u64,
     /// Its remaining ticks; 0 if no job of the row waits.
     pub left: u64,
-    /// Its budget left: how long later jobs and idle may still run before it.
+    /// Its budget left: how long later jobs and idle may still run before it; at most D − C.
     pub budget: u64,
 }
 
@@ -199,9 +199,11 @@ impl Session {
         shuffle_advance(self, ticks)
     }
 
-    /// The chosen job has finished early, and the choice ends. A job that is done on the very last
-    /// tick of its span, before C ticks, has no choice in force, so this answers 9: finish it as soon
-    /// as it is chosen again, before any tick passes. Refusals: 5, 9, 11.
+    /// The chosen job has finished early, and the choice ends. In a loose session the waiting jobs of
+    /// strictly later deadline gain its unused ticks as budget, each up to its D − C. A job that is
+    /// done on the very last tick of its span, before C ticks, has no choice in force, so this
+    /// answers 9: finish it as soon as it is chosen again, before any tick passes.
+    /// Refusals: 5, 9, 11.
     pub fn finish(&mut self) -> Reply {
         shuffle_finish(self)
     }

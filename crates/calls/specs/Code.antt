@@ -1,18 +1,17 @@
 -- The code of the calls: each way out is a case of its definition (docs/SPECIFICATION.md §5.3, §5.5, §5.6). Assumes nothing.
-use Prim.Native.Nat.{ℕ, _+_, _-_, _*_, _≤_, _<_}
+use Prim.Native.Nat.{ℕ, _+_, _-_, _*_, _≤_, _<_, min}
 use mathlib.Core.Path.{_≡_, refl, sym, ap, _∙_}
-use mathlib.Core.Bool.{Bool, true, false, cond}
+use mathlib.Core.Bool.{Bool, true, false, _&&_, cond, true≢false, false≢true}
 use mathlib.Core.Logic.{⊎-elim, dite}
-use native.Mathlib.Numerals.{add-one}
 use native.Mathlib.Omega.{arith}
 use native.Mathlib.Decide.{ℕ-discrete}
 use lib.Dec.{eqb, ltb, lit≤}
-use lib.IntN.{ℤ}
+use lib.IntN.{ℤ, pos, negsuc, natAbs}
 use lib.ListN.{length, set}
 use mir.Syntax.{w64}
 use mir.Val.{Fits}
 use borrow.Author.Tests.{lt-ltb, le-ltb, le-leb, lt-leb, eq-eqb, ne-eqb}
-use Rattle.bounded.specs.Fold.{foldTo, put-past}
+use Rattle.bounded.specs.Signed.{negative}
 use Rattle.table.specs.declared.rows.Task.{Task}
 use Rattle.table.specs.Rows.{horizon, FitRow, Fit}
 use Rattle.table.specs.Bound.{Within}
@@ -22,12 +21,13 @@ use Rattle.session.specs.declared.Session.{Session}
 use Rattle.session.specs.declared.Answer.the-variants.{Arrived, Advanced, Finished, NoRow, TooEarly, NoChoice, BadStep, Idling, ClockEnd}
 use Rattle.session.specs.declared.Outcome.{Outcome}
 use Rattle.edf.specs.Demand.{TaskSet}
-use Rattle.session.specs.Reading.{idle, clockEnd, jobAt, tasks, startBy, startBudget}
+use Rattle.session.specs.Reading.{idle, clockEnd, jobAt, tasks, waits, natural, startBy, startBudget}
 use Rattle.session.specs.Sound.{sound}
 use Rattle.session.specs.Facts.{Facts, Choice, Running, facts-of, facts-fit}
 use Rattle.session.specs.Ahead.{aheadBy, DueOf, ahead-is}
 use Rattle.session.specs.Soundness.{rows-count}
-use Rattle.session.specs.Calls.{refused, changed, steppedOf, arrivedBy, arrivedJob, arriveIn, overJob, agedJob, agedJobs, overBy, overAfter, advanceIn, finishIn}
+use Rattle.session.specs.Calls.{refused, changed, overJob, withBudget, steppedOf, arrivedBy, arrivedJob, arriveIn, agedJob, overBy, overAfter, advanceIn, unusedOf, gains, givenJob, finishedOf, finishIn}
+use Rattle.session.specs.Jobs.{doneTo, done-past, done-next}
 
 -- ---- what soundness gives the code
 
@@ -56,20 +56,40 @@ in-force s e ne = let f = facts-of s e in ⊎-elim (λ z. absurd (ne z)) (λ c. 
 pub row-place : (s : Session) (row : ℕ) → sound s ≡ true → row < s .count → row < 16
 row-place s row e l = let f = facts-of s e in omega (arith, f .few)
 
-pub chosen-place : (s : Session) → sound s ≡ true → (s .span ≡ 0 → ⊥) → (s .chosen ≡ idle → ⊥) → s .chosen < 16
-chosen-place s e n ne = in-force s e n .row ne
-
 -- where a place's job begins, of 32 bytes each
 pub place-fits : (i : ℕ) → i < 16 → Fits w64 (i * 32)
 place-fits i l = record { fits = omega arith }
 
-pub ruleset places = (row-place, chosen-place, place-fits)
+pub ruleset places = (row-place, place-fits)
 
 -- a step of the clock does not wrap
 pub step-fits : (s : Session) (n : ℕ) → sound s ≡ true → (s .span ≡ 0 → ⊥) → n ≤ s .span → Fits w64 (s .clock + n)
 step-fits s n e ne l = let b = in-force s e ne in record { fits = omega (arith, b .clock, b .small) }
 
 -- ---- arrive
+
+pub start-tight : (kind : ℕ) (v : ℤ) → (kind ≡ 1 → ⊥) → 0 ≡ startBy kind v
+unfolding startBy
+start-tight kind v ne = simp (ne-eqb kind 1 ne)
+
+natural-none : (v : ℤ) → negative v ≡ true → 0 ≡ natural v
+natural-none (pos n) e = absurd (false≢true e)
+natural-none (negsuc n) e = refl
+
+natural-some : (v : ℤ) → negative v ≡ false → natAbs v ≡ natural v
+natural-some (pos n) e = refl
+natural-some (negsuc n) e = absurd (true≢false e)
+
+-- w is what the machine reads back of v
+pub start-none : (kind : ℕ) (v w : ℤ) (b : Bool) → kind ≡ 1 → w ≡ v → b ≡ negative w → b ≡ true → 0 ≡ startBy kind v
+unfolding startBy
+start-none kind v w b e r h t = simp (eq-eqb kind 1 e) (natural-none v (ap negative (sym r) ∙ sym h ∙ t))
+
+pub start-some : (kind x : ℕ) (v w : ℤ) (b : Bool) → kind ≡ 1 → w ≡ v → b ≡ negative w → b ≡ false → x ≡ natAbs w → x ≡ startBy kind v
+unfolding startBy
+start-some kind x v w b e r h f g = simp (eq-eqb kind 1 e) (g ∙ ap natAbs r ∙ natural-some v (ap negative (sym r) ∙ sym h ∙ f))
+
+pub ruleset start-cases = (start-tight, start-none, start-some)
 
 -- w is what the machine reads back of V
 pub arrived-is : (τ : TaskSet) (i clock kind start : ℕ) (k : Task) (v w : ℤ) → FitRow τ i k → v ≡ budgetOf τ i → w ≡ v → start ≡ startBy kind w
@@ -106,16 +126,89 @@ module _ (s : Session) where
   unfolding finishIn
   finish-idle o h c e = e ∙ sym (simp (ne-eqb (s .span) 0 h, eq-eqb (s .chosen) idle c))
 
-  pub finish-done : (s .span ≡ 0 → ⊥) → (s .chosen ≡ idle → ⊥)
-      → record {
-        answer = Finished (s .chosen) (jobAt s (s .chosen) .left);
-        used = 0;
-        session = changed s (s .clock) (set (s .jobs) (s .chosen) (overJob s (s .chosen))) 0 0;
-      } ≡ finishIn s
+  pub finish-done : (o : Outcome) → (s .span ≡ 0 → ⊥) → (s .chosen ≡ idle → ⊥) → o ≡ finishedOf s → o ≡ finishIn s
   unfolding finishIn
-  finish-done h c = sym (simp (ne-eqb (s .span) 0 h, ne-eqb (s .chosen) idle c))
+  finish-done o h c e = e ∙ sym (simp (ne-eqb (s .span) 0 h, ne-eqb (s .chosen) idle c))
 
 pub ruleset finish-cases = (finish-none, finish-idle, finish-done)
+
+-- whether j gains what a job that is due at `due` leaves unused
+unfoldable pub gainsBy : Job → ℕ → ℕ → Bool
+gainsBy j due kind = eqb kind 1 && (ltb 0 (j .left) && ltb due (j .due))
+
+module _ (j : Job) (due kind : ℕ) where
+  pub gains-tight : (kind ≡ 1 → ⊥) → false ≡ gainsBy j due kind
+  unfolding gainsBy
+  gains-tight ne = simp (ne-eqb kind 1 ne)
+
+  pub gains-none : kind ≡ 1 → j .left < 1 → false ≡ gainsBy j due kind
+  unfolding gainsBy
+  gains-none e h = simp (eq-eqb kind 1 e, le-ltb 0 (j .left) (omega arith))
+
+  pub gains-later : kind ≡ 1 → 1 ≤ j .left → ltb due (j .due) ≡ gainsBy j due kind
+  unfolding gainsBy
+  gains-later e h = simp (eq-eqb kind 1 e, lt-ltb 0 (j .left) (omega arith))
+
+pub ruleset gains-cases = (gains-tight, gains-none, gains-later)
+
+module _ (b n most : ℕ) where
+  pub capped-all : most < n → most ≡ min (b + n) most
+  capped-all h = omega arith
+
+  pub capped-most : n ≤ most → most - n < b → most ≡ min (b + n) most
+  capped-most h k = omega arith
+
+  pub capped-sum : n ≤ most → b ≤ most - n → b + n ≡ min (b + n) most
+  capped-sum h k = omega arith
+
+pub ruleset capped-cases = (capped-all, capped-most, capped-sum)
+
+-- row i's job j after c, which is due at `due`, is over with n unused ticks
+unfoldable pub givenBy : TaskSet → ℕ → Job → ℕ → ℕ → ℕ → ℕ → Job
+givenBy τ i j c due n kind =
+    cond (eqb i c) (overJob j)
+    (cond (gainsBy j due kind) (withBudget j (min (j .budget + n) (τ .D i - τ .C i))) j)
+
+module _ (τ : TaskSet) (i : ℕ) (j : Job) (c due n kind : ℕ) where
+  pub given-over : (o : Job) → i ≡ c → o ≡ overJob j → o ≡ givenBy τ i j c due n kind
+  unfolding givenBy
+  given-over o e f = f ∙ sym (simp (eq-eqb i c e))
+
+  pub given-more : (b : Bool) (k : Task) (x : ℕ) → (i ≡ c → ⊥) → b ≡ gainsBy j due kind → b ≡ true → FitRow τ i k
+      → x ≡ min (j .budget + n) (k .deadline - k .run) → withBudget j x ≡ givenBy τ i j c due n kind
+  unfolding givenBy
+  given-more b k x ne e t f g = let r = f .row in rw (g, r .deadline, r .run) (sym (simp (ne-eqb i c ne, sym e ∙ t)))
+
+  pub given-same : (b : Bool) → (i ≡ c → ⊥) → b ≡ gainsBy j due kind → b ≡ false → j ≡ givenBy τ i j c due n kind
+  unfolding givenBy
+  given-same b ne e f = sym (simp (ne-eqb i c ne, sym e ∙ f))
+
+pub ruleset given-cases = (given-over, given-more, given-same)
+
+-- a finish that nothing refuses
+pub record Ending (s : Session) : Type 0 where
+  pub few : s .count ≤ 16
+  pub row : s .chosen < 16
+  pub fit : Fit (tasks s)
+  pub places : length (s .words) ≡ 48
+
+pub ending-of : (s : Session) → length (s .words) ≡ 48 → sound s ≡ true → (s .span ≡ 0 → ⊥) → (s .chosen ≡ idle → ⊥) → Ending s
+ending-of s p e n ne =
+    let f = facts-of s e in
+    record { few = f .few; row = in-force s e n .row ne; fit = facts-fit s f; places = p }
+
+pub ending-rows : (s : Session) (i : ℕ) → Ending s → i < s .count → Fit (tasks s) × (i < tasks s .rows)
+ending-rows s i f l = (f .fit, omega (arith, rows-count s (f .few) (f .places)))
+
+pub given-next : (s q : Session) (i : ℕ) (j : Job) → q ≡ doneTo s (givenJob s) i
+    → j ≡ givenBy (tasks s) i (jobAt q i) (s .chosen) (jobAt s (s .chosen) .due) (unusedOf s) (s .kind)
+    → changed q (q .clock) (set (q .jobs) i j) (q .chosen) (q .span) ≡ doneTo s (givenJob s) (i + 1)
+unfolding givenBy givenJob gainsBy gains waits
+given-next s q i j e f = done-next s (givenJob s) q i j e (rw (done-past s (givenJob s) q i e) at f)
+
+pub finished-is : (s q : Session) (i m : ℕ) → q ≡ doneTo s (givenJob s) i → i ≤ m → m ≤ i → m ≡ s .count
+    → record { answer = Finished (s .chosen) (unusedOf s); used = 0; session = changed q (q .clock) (q .jobs) 0 0 } ≡ finishedOf s
+finished-is s q i m e l h c = let j : i ≡ s .count = omega arith in rw (e, j) refl
 
 -- ---- advance
 
@@ -141,21 +234,20 @@ pub ruleset place-cases = (place-chosen, place-first)
 unfoldable pub agedBy : Job → ℕ → ℕ → ℕ → ℕ → Job
 agedBy j i c due n =
     cond (eqb i c)
-    (cond (eqb (j .left) n) record { next = j .next; due = 0; left = 0; budget = 0 }
+    (cond (eqb (j .left) n) (overJob j)
     record { next = j .next; due = j .due; left = j .left - n; budget = j .budget })
-    (cond (aheadBy j c due) record { next = j .next; due = j .due; left = j .left; budget = j .budget - n } j)
+    (cond (aheadBy j c due) (withBudget j (j .budget - n)) j)
 
 module _ (j : Job) (i c due n : ℕ) where
-  pub aged-over : i ≡ c → j .left ≡ n → record { next = j .next; due = 0; left = 0; budget = 0 } ≡ agedBy j i c due n
+  pub aged-over : (o : Job) → i ≡ c → j .left ≡ n → o ≡ overJob j → o ≡ agedBy j i c due n
   unfolding agedBy
-  aged-over e f = simp (eq-eqb i c e, eq-eqb (j .left) n f)
+  aged-over o e f g = g ∙ sym (simp (eq-eqb i c e, eq-eqb (j .left) n f))
 
   pub aged-runs : (x : ℕ) → i ≡ c → (j .left ≡ n → ⊥) → x ≡ j .left - n → record { next = j .next; due = j .due; left = x; budget = j .budget } ≡ agedBy j i c due n
   unfolding agedBy
   aged-runs x e f g = simp (eq-eqb i c e, ne-eqb (j .left) n f, g)
 
-  pub aged-loses : (x : ℕ) (b : Bool) → (i ≡ c → ⊥) → b ≡ aheadBy j c due → b ≡ true → x ≡ j .budget - n
-      → record { next = j .next; due = j .due; left = j .left; budget = x } ≡ agedBy j i c due n
+  pub aged-loses : (x : ℕ) (b : Bool) → (i ≡ c → ⊥) → b ≡ aheadBy j c due → b ≡ true → x ≡ j .budget - n → withBudget j x ≡ agedBy j i c due n
   unfolding agedBy
   aged-loses x b e f t g = simp (ne-eqb i c e, sym f ∙ t, g)
 
@@ -176,26 +268,12 @@ place-job s at b e ne = ap (jobAt s) (e ∙ sym (place-row (s .chosen) (b .row n
 place-due : (s : Session) (at : ℕ) → ChoiceBounds s → at ≡ placeOf (s .chosen) → DueOf s (s .chosen) (jobAt s at .due)
 place-due s at b e = record { is = λ ne. ap (λ z. z .due) (place-job s at b e ne) }
 
--- the loop over the rows
-abbrev pub agedTo : Session → ℕ → ℕ → Session
-agedTo s n i = changed s (s .clock) (agedJobs s n i) (s .chosen) (s .span)
-
-pub aged-start : (s : Session) (n : ℕ) → s ≡ agedTo s n 0
-unfolding agedJobs foldTo
-aged-start s n = refl
-
--- a row that the loop has not reached is as it was
-aged-past : (s q : Session) (n i : ℕ) → q ≡ agedTo s n i → jobAt q i ≡ jobAt s i
-unfolding agedJobs
-aged-past s q n i e = rw e (put-past (agedJob s n) (s .jobs) i _ i (omega arith))
-
-pub aged-next : (s q : Session) (n i at : ℕ) (j : Job) → q ≡ agedTo s n i → ChoiceBounds s → at ≡ placeOf (s .chosen)
-    → j ≡ agedBy (jobAt q i) i (s .chosen) (jobAt s at .due) n → changed q (q .clock) (set (q .jobs) i j) (q .chosen) (q .span) ≡ agedTo s n (i + 1)
-unfolding agedJobs foldTo
+pub aged-next : (s q : Session) (n i at : ℕ) (j : Job) → q ≡ doneTo s (agedJob s n) i → ChoiceBounds s → at ≡ placeOf (s .chosen)
+    → j ≡ agedBy (jobAt q i) i (s .chosen) (jobAt s at .due) n
+    → changed q (q .clock) (set (q .jobs) i j) (q .chosen) (q .span) ≡ doneTo s (agedJob s n) (i + 1)
 aged-next s q n i at j e b p f =
-    let g : j ≡ agedJob s n i =
-    f ∙ ap (λ (z : Job). agedBy z i (s .chosen) (jobAt s at .due) n) (aged-past s q n i e) ∙ aged-row s (jobAt s at .due) n i (place-due s at b p) in
-    rw (add-one, e) (ap (λ (z : Job). changed s (s .clock) (set (agedJobs s n i) i z) (s .chosen) (s .span)) g)
+    done-next s (agedJob s n) q i j e
+    ((rw (done-past s (agedJob s n) q i e) at f) ∙ aged-row s (jobAt s at .due) n i (place-due s at b p))
 
 module _ (c left n : ℕ) where
   pub over-idle : c ≡ idle → 0 ≡ overBy c left n
@@ -245,7 +323,7 @@ pub record Step (s : Session) (n : ℕ) : Type 0 where
   pub within : n ≤ s .span
   pub ends : s .clock + n ≤ clockEnd
 
-pub stepped-is : (s q : Session) (n i m at x y : ℕ) → Step s n → q ≡ agedTo s n i → i ≤ m → m ≤ i → m ≡ s .count → at ≡ placeOf (s .chosen)
+pub stepped-is : (s q : Session) (n i m at x y : ℕ) → Step s n → q ≡ doneTo s (agedJob s n) i → i ≤ m → m ≤ i → m ≡ s .count → at ≡ placeOf (s .chosen)
     → x ≡ keptBy (s .chosen) (s .span - n) → y ≡ overBy (s .chosen) (jobAt s at .left) n
     → record { answer = Advanced (s .span - n) y; used = 0; session = changed q (s .clock + n) (q .jobs) x (s .span - n) } ≡ steppedOf s n
 stepped-is s q n i m at x y t e l h c p a b =

@@ -6,6 +6,7 @@ ghost use Rattle.table.specs.Bound.{Within};
 ghost use Rattle.session.specs.Sound.{sound};
 ghost use Rattle.session.specs.Calls.{overBy, steppedOf, advanceIn, advanceOf};
 ghost use Rattle.calls.specs.Code.{agedBy, placeOf, keptBy, Step};
+use super::over_job;
 use session::Answer;
 use session::Job;
 use session::Outcome;
@@ -27,12 +28,7 @@ fn aged_job(j: Job, i: u64, c: u64, due: u64, n: u64) -> Job
 {
     if i == c {
         if j.left == n {
-            return Job {
-                next: j.next,
-                due: 0,
-                left: 0,
-                budget: 0,
-            };
+            return over_job(j);
         }
         return Job {
             next: j.next,

@@ -3,7 +3,7 @@ ghost use mathlib.Core.Path.{_≡_};
 ghost use mathlib.Core.Bool.{true};
 ghost use Prim.Native.Nat.{_≤_, _<_};
 ghost use Rattle.table.specs.Rows.{tasksOf, Fit};
-ghost use Rattle.session.specs.Reading.{clockEnd};
+ghost use Rattle.session.specs.Reading.{clockEnd, startBy};
 ghost use Rattle.session.specs.Sound.{sound};
 ghost use Rattle.session.specs.Calls.{arrivedBy, arriveIn, arriveOf};
 use session::Answer;
@@ -12,7 +12,19 @@ use session::Outcome;
 use session::Session;
 use session::refuse;
 use session::sound::is_sound;
-use session::sound::start_budget;
+
+// A row's starting budget: V in a loose session, 0 in a tight one.
+fn start_budget(kind: u64, v: i64) -> u64
+    ensures { λ r. ⌜ r ≡ startBy kind v ⌝ }
+{
+    if kind == 1 {
+        if table::budgets::below_zero(v) {
+            return 0;
+        }
+        return table::budgets::magnitude(v);
+    }
+    0
+}
 
 // The job that arrives now in row i of a table.
 fn arriving(rows: &[u32], i: usize, clock: u64, kind: u64) -> Job

@@ -1,14 +1,95 @@
 // The chosen job is over early (docs/SPECIFICATION.md §5.6).
 ghost use mathlib.Core.Path.{_≡_};
 ghost use mathlib.Core.Bool.{true};
+ghost use Prim.Native.Nat.{_+_, _<_, min};
+ghost use Rattle.table.specs.Rows.{tasksOf, Fit};
 ghost use Rattle.session.specs.Sound.{sound};
-ghost use Rattle.session.specs.Calls.{finishIn, finishOf};
+ghost use Rattle.session.specs.Calls.{finishedOf, finishIn, finishOf};
+ghost use Rattle.calls.specs.Code.{gainsBy, givenBy, Ending};
+use super::over_job;
 use session::Answer;
 use session::Job;
 use session::Outcome;
 use session::Session;
 use session::refuse;
 use session::sound::is_sound;
+
+// Whether j gains what a job that is due at `due` leaves unused.
+fn gains(j: Job, due: u64, kind: u64) -> bool
+    ensures { λ r. ⌜ r ≡ gainsBy j due kind ⌝ }
+{
+    if kind != 1 {
+        return false;
+    }
+    if j.left < 1 {
+        return false;
+    }
+    due < j.due
+}
+
+// The lesser of b + n and most; no sum that could wrap is made.
+fn capped(b: u64, n: u64, most: u64) -> u64
+    ensures { λ r. ⌜ r ≡ min (b + n) most ⌝ }
+{
+    if most < n {
+        return most;
+    }
+    if most - n < b {
+        return most;
+    }
+    b + n
+}
+
+// Row i's job after the chosen job c, which is due at `due`, is over with n unused ticks.
+fn given_job(rows: &[u32], i: usize, j: Job, c: u64, due: u64, n: u64, kind: u64) -> Job
+    requires { ⌜ Fit (tasksOf (now rows)) × (i < tasksOf (now rows) .rows) ⌝ }
+    ensures { λ r. ⌜ r ≡ givenBy (tasksOf (now (rows .entry))) i j c due n kind ⌝ }
+{
+    if (i as u64) == c {
+        return over_job(j);
+    }
+    if gains(j, due, kind) {
+        let k = table::rows::fit_row(rows, i);
+        return Job {
+            next: j.next,
+            due: j.due,
+            left: j.left,
+            budget: capped(j.budget, n, k.deadline - k.run),
+        };
+    }
+    j
+}
+
+// The chosen job is over, where no refusal holds. Only q is indexed, so that the record is not copied once more to read it.
+fn finished(s: Session) -> Outcome
+    requires { ⌜ Ending s ⌝ }
+    ensures { λ r. ⌜ r ≡ finishedOf s ⌝ }
+{
+    let mut q = s;
+    let count = q.count as usize;
+    let c = q.chosen;
+    let kind = q.kind;
+    let words = q.words;
+    let e = 3 * count;
+    let rows = &words[..e];
+    let k = q.jobs[c as usize];
+    let mut i: usize = 0;
+    while i < count {
+        let j = q.jobs[i];
+        q.jobs[i] = given_job(rows, i, j, c, k.due, k.left, kind);
+        i = i + 1;
+    }
+    q.chosen = 0;
+    q.span = 0;
+    Outcome {
+        answer: Answer::Finished {
+            row: c,
+            unused: k.left,
+        },
+        used: 0,
+        session: q,
+    }
+}
 
 // `finish` without its check, for callers who can prove that the session is sound.
 pub fn finish_sound(s: Session) -> Outcome
@@ -23,26 +104,7 @@ pub fn finish_sound(s: Session) -> Outcome
     if c == Session::IDLE {
         return refuse(s, Answer::Idling);
     }
-    // Only q is indexed, so that the record is not copied once more to read it.
-    let mut q = s;
-    let i = c as usize;
-    let j = q.jobs[i];
-    q.jobs[i] = Job {
-        next: j.next,
-        due: 0,
-        left: 0,
-        budget: 0,
-    };
-    q.chosen = 0;
-    q.span = 0;
-    Outcome {
-        answer: Answer::Finished {
-            row: c,
-            unused: j.left,
-        },
-        used: 0,
-        session: q,
-    }
+    finished(s)
 }
 
 pub fn finish(s: Session) -> Outcome

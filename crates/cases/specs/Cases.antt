@@ -20,11 +20,11 @@ use Rattle.table.specs.Busy.{busyLength}
 use Rattle.table.specs.Verdict.{badLength, firstOverload, overloaded, opinionOf, answerOf}
 use Rattle.session.specs.declared.Job.{Job}
 use Rattle.session.specs.declared.Session.{Session}
-use Rattle.session.specs.Reading.{idle, noJob, rowsOf, waits, ahead, startBy, startBudget}
+use Rattle.session.specs.Reading.{idle, noJob, rowsOf, waits, ahead, startBy, startBudget, mostBudget}
 use Rattle.session.specs.Sound.{soundRows, soundWaiting, soundJob, runs, affords, soundChoice, sound}
 use Rattle.session.specs.Order.{arrivalOf, cameBefore, before, isHead, headOf, permits, candidate, candidates, position, rowWith, candidateAt}
 use Rattle.session.specs.Choose.{draw, drawn, pickOf, room, unopposed, lengthDrawn, spanOf, pickUsed, usedOf}
-use Rattle.session.specs.Calls.{Shown, shown, three, arriveIn, chooseIn, agedJob, agedJobs, overBy, overAfter, advanceIn, finishIn, arriveOf, chooseOf, advanceOf, finishOf}
+use Rattle.session.specs.Calls.{Shown, shown, three, arriveIn, chooseIn, jobsWith, agedJob, overBy, overAfter, advanceIn, gains, givenJob, finishIn, arriveOf, chooseOf, advanceOf, finishOf}
 use Rattle.session.specs.Admit.{wordsTo, freshOf, sessionOf}
 use Rattle.guarantee.specs.Ledger.{Call, arrive, choose, advance, finish}
 use Rattle.guarantee.specs.Statement.{outcomeOf}
@@ -157,6 +157,45 @@ u₅ c = of (job 20 20 1 8) (job 20 20 1 7) 10 c 1
 abbrev early : Session
 early = of (job 5 5 1 8) (job 5 5 1 17) 0 0 0
 
+-- five rows, and sessions of theirs from call to call: rows 0 to 3 arrive at 0, due at 20, 30, 30 and 40; row 1 and then
+-- row 0 are over early
+abbrev behind : List ℕ
+behind = 2 ∷ 100 ∷ 20 ∷ 5 ∷ 100 ∷ 30 ∷ 3 ∷ 100 ∷ 30 ∷ 4 ∷ 100 ∷ 40 ∷ 1 ∷ 100 ∷ 50 ∷ []
+
+abbrev four : Job → Job → Job → Job → ℕ → ℕ → ℕ → Session
+four a b c d clock chosen n = session behind (a ∷ b ∷ c ∷ d ∷ noJob ∷ []) clock chosen n
+
+abbrev f₀ : Session
+f₀ = four noJob noJob noJob noJob 0 0 0
+
+abbrev f₁ : Session
+f₁ = four (job 100 20 2 5) noJob noJob noJob 0 0 0
+
+abbrev f₂ : Session
+f₂ = four (job 100 20 2 5) (job 100 30 5 15) noJob noJob 0 0 0
+
+abbrev f₃ : Session
+f₃ = four (job 100 20 2 5) (job 100 30 5 15) (job 100 30 3 15) noJob 0 0 0
+
+abbrev f₄ : Session
+f₄ = four (job 100 20 2 5) (job 100 30 5 15) (job 100 30 3 15) (job 100 40 4 25) 0 0 0
+
+abbrev f₅ : Session
+f₅ = four (job 100 20 2 5) (job 100 30 5 15) (job 100 30 3 15) (job 100 40 4 25) 0 1 3
+
+-- before and after row 1 is over, where row 3 has the budget b; calls lead to 25 and 28
+abbrev f₆ : ℕ → Session
+f₆ b = four (job 100 20 2 3) (job 100 30 3 15) (job 100 30 3 15) (job 100 40 4 b) 2 1 1
+
+abbrev f₇ : ℕ → Session
+f₇ b = four (job 100 20 2 3) (job 100 0 0 0) (job 100 30 3 15) (job 100 40 4 b) 2 0 0
+
+abbrev f₈ : Session
+f₈ = four (job 100 20 2 3) (job 100 0 0 0) (job 100 30 3 15) (job 100 40 4 28) 2 0 2
+
+abbrev f₉ : Session
+f₉ = four (job 100 0 0 0) (job 100 0 0 0) (job 100 30 3 17) (job 100 40 4 30) 2 0 0
+
 -- the listing's table, and its sessions from call to call
 abbrev listing : List ℕ
 listing = 2 ∷ 10 ∷ 10 ∷ 3 ∷ 20 ∷ 15 ∷ []
@@ -192,7 +231,7 @@ abbrev s₈ : Session
 s₈ = at (job 10 10 1 2) (job 20 15 2 6) 4 0 1
 
 abbrev s₉ : Session
-s₉ = at (job 10 0 0 0) (job 20 15 2 6) 4 0 0
+s₉ = at (job 10 0 0 0) (job 20 15 2 7) 4 0 0
 
 pub cases : List Case
 cases =
@@ -223,6 +262,20 @@ cases =
     ∷ is (called u₄ (choose (1 ∷ []))) (outcome (three 0 0 1) 1 (u₅ 0))
     ∷ is (soundness early) (flag true)
     ∷ is (head early) (row 1)
+    ∷ is (opened behind 0) (fresh f₀)
+    ∷ is (called f₀ (arrive 0)) (outcome (three 0 0 20) 0 f₁)
+    ∷ is (called f₁ (arrive 1)) (outcome (three 0 1 30) 0 f₂)
+    ∷ is (called f₂ (arrive 2)) (outcome (three 0 2 30) 0 f₃)
+    ∷ is (called f₃ (arrive 3)) (outcome (three 0 3 40) 0 f₄)
+    ∷ is (called f₄ (choose (1 ∷ 2 ∷ []))) (outcome (three 0 1 3) 2 f₅)
+    ∷ is (called f₅ (advance 2)) (outcome (three 0 1 0) 0 (f₆ 25))
+    ∷ is (called (f₆ 25) finish) (outcome (three 0 1 3) 0 (f₇ 28))
+    ∷ is (called (f₇ 28) (choose [])) (outcome (three 0 0 2) 0 f₈)
+    ∷ is (called f₈ finish) (outcome (three 0 0 2) 0 f₉)
+    ∷ is (called (f₆ 33) finish) (outcome (three 0 1 3) 0 (f₇ 36))
+    ∷ is (called (f₆ 34) finish) (outcome (three 0 1 3) 0 (f₇ 36))
+    ∷ is (called (f₆ 36) finish) (outcome (three 0 1 3) 0 (f₇ 36))
+    ∷ is (called (f₆ 37) finish) (outcome (three 5 0 0) 0 (f₆ 37))
     ∷ is (opened listing 0) (fresh s₀)
     ∷ is (called s₀ (arrive 0)) (outcome (three 0 0 10) 0 s₁)
     ∷ is (called s₁ (arrive 1)) (outcome (three 0 1 15) 0 s₂)
@@ -279,14 +332,18 @@ All [] = Unit
 All (c ∷ l) = Holds c × All l
 
 pub every-case : All cases
-unfolding cases answerOf opinionOf badLength firstBroken broken rowRule tasksOf loose looseTo allTo budgetOf valuesOf valuesTo foldTo interference demand request sumTo gate jobsBy ceilDiv leastFrom rowsOf waits ahead startBy startBudget soundRows soundWaiting soundJob runs affords soundChoice sound arrivalOf cameBefore before isHead headOf permits candidate candidates position rowWith candidateAt draw drawn pickOf room unopposed lengthDrawn spanOf pickUsed usedOf arriveIn chooseIn agedJob agedJobs overBy overAfter advanceIn finishIn arriveOf chooseOf advanceOf finishOf wordsTo freshOf sessionOf
+unfolding cases answerOf opinionOf badLength firstBroken broken rowRule tasksOf loose looseTo allTo budgetOf valuesOf valuesTo foldTo interference demand request sumTo gate jobsBy ceilDiv leastFrom rowsOf waits ahead startBy startBudget mostBudget soundRows soundWaiting soundJob runs affords soundChoice sound arrivalOf cameBefore before isHead headOf permits candidate candidates position rowWith candidateAt draw drawn pickOf room unopposed lengthDrawn spanOf pickUsed usedOf arriveIn chooseIn jobsWith agedJob overBy overAfter advanceIn gains givenJob finishIn arriveOf chooseOf advanceOf finishOf wordsTo freshOf sessionOf
 every-case =
     (refl, (refl, (heavy-verdict, (refl, (rw heavy-busy, (long-verdict, (rw long-busy, (refl, (refl, (over-verdict, (over-exceeded, (refl, (refl, equals)))))))))))))
   where
     -- the listing
-    listed : All (drop 27 cases)
+    listed : All (drop 41 cases)
     listed = (refl, (refl, (refl, (refl, (refl, (refl, (refl, (refl, (refl, (refl, (refl, tt)))))))))))
+
+    -- a finish that gives
+    gifts : All (drop 27 cases)
+    gifts = (refl, (refl, (refl, (refl, (refl, (refl, (refl, (refl, (refl, (refl, (refl, (refl, (refl, (refl, listed))))))))))))))
 
     -- equal deadlines
     equals : All (drop 13 cases)
-    equals = (refl, (refl, (refl, (refl, (refl, (refl, (refl, (refl, (refl, (refl, (refl, (refl, (refl, (refl, listed))))))))))))))
+    equals = (refl, (refl, (refl, (refl, (refl, (refl, (refl, (refl, (refl, (refl, (refl, (refl, (refl, (refl, gifts))))))))))))))

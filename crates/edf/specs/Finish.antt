@@ -3,12 +3,11 @@ use Prim.Native.Nat.{ℕ, _+_, _≤_, _<_}
 use mathlib.Core.Path.{_≡_, sym, _∙_}
 use mathlib.Core.Logic.{dite}
 use mathlib.Core.Bool.{true, true≢false}
-use native.Mathlib.Nat.{le-of-eq}
 use native.Mathlib.Omega.{arith}
 use native.Mathlib.Decide.{decLt}
 use Rattle.edf.specs.Demand.{TaskSet, Lawful, Feasible}
-use Rattle.edf.specs.State.{State, soonest, pending, load, WellFormed, Slack, SlackOn, AllSlack, Elapsed, pending-idle, pending-in, soonest-le, load-less, free-slack, budget-cap, on-le}
-use Rattle.edf.specs.Steps.{Over, Finish, Refund, Start}
+use Rattle.edf.specs.State.{State, soonest, pending, load, WellFormed, Slack, SlackOn, AllSlack, Elapsed, pending-idle, pending-in, soonest-le, load-has, load-less, free-slack, on-le}
+use Rattle.edf.specs.Steps.{Over, Finish, Start}
 
 module _ (τ : TaskSet) (ok : Lawful τ) (s s′ : State) (k : ℕ) (st : Over τ k s s′) where
   -- a job that waits after it is of another row, and waited before it
@@ -48,8 +47,8 @@ module _ (τ : TaskSet) (ok : Lawful τ) (s s′ : State) (k : ℕ) (st : Over �
 
 module _ (τ : TaskSet) (ok : Lawful τ) (s s′ : State) (k : ℕ) where
   -- unused ticks given as budget to jobs of later deadline keep the slack
-  pub refund-slack : Refund τ k s s′ → Slack τ s → Slack τ s′
-  refund-slack f sl i l w =
+  pub finish-slack : Finish τ k s s′ → Slack τ s → Slack τ s′
+  finish-slack f sl i l w =
       let st = f .over in
       let ne = over-other τ ok s s′ k st i w in
       let v = over-waits τ ok s s′ k st i l w in
@@ -59,20 +58,20 @@ module _ (τ : TaskSet) (ok : Lawful τ) (s s′ : State) (k : ℕ) where
       (λ h. omega (arith, over-less τ ok s s′ k st (s .due i) (omega arith), sl i l v, f .later i l ne v h))
       (λ h. omega (arith, over-le τ ok s s′ k st (s .due i), sl i l v, f .earlier i l ne v (omega arith))))
 
-  -- and bring no budget above D - C, so that a cap there never cuts anything
-  pub refund-cap : Refund τ k s s′ → Slack τ s → Elapsed τ s → (i : ℕ) → i < τ .rows → s′ .waits i ≡ true → s′ .budget i + τ .C i ≤ τ .D i
-  refund-cap f sl el = budget-cap τ ok s′ (refund-slack f sl) (over-elapsed τ ok s s′ k (f .over) el)
-
-  -- a finish is a refund of nothing
-  pub finish-refund : Finish τ k s s′ → Refund τ k s s′
-  finish-refund f = record {
-    over = f .over;
-    earlier = λ i l ne w h. le-of-eq (f .budgets i l ne w);
-    later = λ i l ne w h. omega (arith, f .budgets i l ne w);
-  }
-
-  pub finish-slack : Finish τ k s s′ → Slack τ s → Slack τ s′
-  finish-slack f = refund-slack (finish-refund f)
+  -- and bring no budget above D - C, so that a cap there never cuts anything: by the deadline of a job that gains there is
+  -- time for what is left of both jobs and for its budget, and it has run no longer than since its arrival
+  pub finish-cap : Over τ k s s′ → Slack τ s → Elapsed τ s → (i : ℕ) → i < τ .rows → s′ .waits i ≡ true → s .due k ≤ s .due i
+      → s .budget i + s .left k + τ .C i ≤ τ .D i
+  finish-cap st sl el i l w h =
+      let v = over-waits τ ok s s′ k st i l w in
+      omega (
+        arith,
+        sl i l v,
+        el i l v,
+        st .others i l (over-other τ ok s s′ k st i w),
+        over-less τ ok s s′ k st (s .due i) h,
+        load-has τ ok s′ (s .due i) i l w (omega (arith, st .others i l (over-other τ ok s s′ k st i w))),
+      )
 
 module _ (τ : TaskSet) (ok : Lawful τ) (s : State) (st : Start τ s) where
   start-none : {P : Type 0} (i : ℕ) → i < τ .rows → s .waits i ≡ true → P

@@ -6,10 +6,10 @@ use native.Mathlib.Nat.{le-trans}
 use native.Mathlib.Omega.{arith}
 use Rattle.edf.specs.Demand.{TaskSet, Lawful, Feasible, interference}
 use Rattle.edf.specs.State.{State, soonest, load, WellFormed, Slack, SlackOn, Head}
-use Rattle.edf.specs.Steps.{Arrive, Run, Idle, Finish, Refund, Start}
+use Rattle.edf.specs.Steps.{Arrive, Run, Idle, Finish, Start}
 use Rattle.edf.specs.Arrive.{arrive-bound, arrive-slack-by, arrive-on, arrive-soonest}
 use Rattle.edf.specs.Advance.{run-slack, run-near, run-head, run-soonest, idle-slack, idle-all}
-use Rattle.edf.specs.Finish.{over-on, over-soonest, finish-refund, refund-slack, start-slack, start-all}
+use Rattle.edf.specs.Finish.{over-on, over-soonest, finish-slack, start-slack, start-all}
 
 -- d is no earlier than the earliest deadline that the next job of some brittle row can have
 pub record Watched (τ : TaskSet) (brittle : ℕ → Bool) (s : State) (d : ℕ) : Type 0 where
@@ -76,14 +76,11 @@ module _ (τ : TaskSet) (ok : Lawful τ) (brittle : ℕ → Bool) (s s′ : Stat
   mixed-idle m st fe none mx =
       record { slack = idle-slack τ ok s s′ m st (mx .slack); watched = λ d v. idle-all τ ok s s′ m st fe none d }
 
-  pub mixed-refund : (k : ℕ) → Refund τ k s s′ → MixedSlack τ brittle s → MixedSlack τ brittle s′
-  mixed-refund k f mx = record {
-    slack = refund-slack τ ok s s′ k f (mx .slack);
+  pub mixed-finish : (k : ℕ) → Finish τ k s s′ → MixedSlack τ brittle s → MixedSlack τ brittle s′
+  mixed-finish k f mx = record {
+    slack = finish-slack τ ok s s′ k f (mx .slack);
     watched = over-on τ ok s s′ k (f .over) _ _ (watched-le τ brittle s s′ (over-soonest τ ok s s′ k (f .over))) (mx .watched);
   }
-
-  pub mixed-finish : (k : ℕ) → Finish τ k s s′ → MixedSlack τ brittle s → MixedSlack τ brittle s′
-  mixed-finish k f = mixed-refund k (finish-refund τ ok s s′ k f)
 
 pub mixed-start : (τ : TaskSet) → Lawful τ → (brittle : ℕ → Bool) (s : State) → Start τ s → Feasible τ → MixedSlack τ brittle s
 mixed-start τ ok brittle s st fe = record { slack = start-slack τ ok s st; watched = λ d v. start-all τ ok s st fe d }

@@ -4,10 +4,10 @@ use mathlib.Core.Path.{_≡_, refl}
 use mathlib.Core.Bool.{false}
 use Rattle.edf.specs.Demand.{TaskSet, Lawful, Feasible, interference}
 use Rattle.edf.specs.State.{State, WellFormed, Slack, AllSlack, Elapsed, Head}
-use Rattle.edf.specs.Steps.{Arrive, Run, Idle, Finish, Refund, Start}
+use Rattle.edf.specs.Steps.{Arrive, Run, Idle, Finish, Start}
 use Rattle.edf.specs.Arrive.{arrive-formed, arrive-slack, arrive-slack-all, arrive-all, arrive-elapsed}
 use Rattle.edf.specs.Advance.{run-formed, run-slack, run-all, run-elapsed, idle-formed, idle-slack, idle-all, idle-elapsed}
-use Rattle.edf.specs.Finish.{over-formed, over-all, over-elapsed, finish-refund, finish-slack, refund-slack, start-formed, start-slack, start-elapsed, start-all}
+use Rattle.edf.specs.Finish.{over-formed, over-all, over-elapsed, finish-slack, start-formed, start-slack, start-elapsed, start-all}
 
 -- ---- loose (docs/SPECIFICATION.md §3.1): each job arrives with a budget of at most V, and any waiting job may run,
 -- or none, as long as the budgets allow
@@ -22,18 +22,10 @@ pub data Step (τ : TaskSet) (s s′ : State) : Type 0 where
   ran : (k m : ℕ) → Run τ k m s s′ → Step τ s s′
   idled : (m : ℕ) → Idle τ m s s′ → Step τ s s′
   finished : (k : ℕ) → Finish τ k s s′ → Step τ s s′
-  refunded : (k : ℕ) → Refund τ k s s′ → Step τ s s′
 
 pub safe-start : (τ : TaskSet) → Lawful τ → (s : State) → Start τ s → Safe τ s
 safe-start τ ok s st =
     record { formed = start-formed τ ok s st; slack = start-slack τ ok s st; elapsed = start-elapsed τ ok s st }
-
-safe-refund : (τ : TaskSet) → Lawful τ → (s s′ : State) → Safe τ s → (k : ℕ) → Refund τ k s s′ → Safe τ s′
-safe-refund τ ok s s′ v k f = record {
-  formed = over-formed τ ok s s′ k (f .over) (v .formed);
-  slack = refund-slack τ ok s s′ k f (v .slack);
-  elapsed = over-elapsed τ ok s s′ k (f .over) (v .elapsed);
-}
 
 pub safe-step : (τ : TaskSet) → Lawful τ → (s s′ : State) → Safe τ s → Step τ s s′ → Safe τ s′
 safe-step τ ok s s′ v (arrived k b st h) = record {
@@ -51,8 +43,11 @@ safe-step τ ok s s′ v (idled m st) = record {
   slack = idle-slack τ ok s s′ m st (v .slack);
   elapsed = idle-elapsed τ ok s s′ m st (v .elapsed);
 }
-safe-step τ ok s s′ v (finished k f) = safe-refund τ ok s s′ v k (finish-refund τ ok s s′ k f)
-safe-step τ ok s s′ v (refunded k f) = safe-refund τ ok s s′ v k f
+safe-step τ ok s s′ v (finished k f) = record {
+  formed = over-formed τ ok s s′ k (f .over) (v .formed);
+  slack = finish-slack τ ok s s′ k f (v .slack);
+  elapsed = over-elapsed τ ok s s′ k (f .over) (v .elapsed);
+}
 
 -- ---- tight (§3.1): the demand is never above t, each job arrives with no budget, a head runs, and nothing runs only
 -- while no job waits (the earliest deadline first)

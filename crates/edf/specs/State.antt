@@ -145,10 +145,6 @@ module _ (τ : TaskSet) (ok : Lawful τ) where
   pub slack-ahead : (s : State) → Slack τ s → (i : ℕ) → i < τ .rows → s .waits i ≡ true → 1 ≤ s .left i → s .clock < s .due i
   slack-ahead s sl i l w h = omega (arith, sl i l w, load-has s (s .due i) i l w (le-refl (s .due i)))
 
-  -- and its budget is at most D - C
-  pub budget-cap : (s : State) → Slack τ s → Elapsed τ s → (i : ℕ) → i < τ .rows → s .waits i ≡ true → s .budget i + τ .C i ≤ τ .D i
-  budget-cap s sl el i l w = omega (arith, sl i l w, el i l w, load-has s (s .due i) i l w (le-refl (s .due i)))
-
   -- ---- from a state to one that is not before it
 
   module _ (s s′ : State) (up : s .clock ≤ s′ .clock) where

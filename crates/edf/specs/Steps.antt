@@ -57,14 +57,9 @@ pub record Over (τ : TaskSet) (k : ℕ) (s s′ : State) : Type 0 where
   pub waits : s′ .waits k ≡ false
   pub others : Others τ k s s′
 
--- row k's waiting job is over, and no budget changes
-pub record Finish (τ : TaskSet) (k : ℕ) (s s′ : State) : Type 0 where
-  pub over : Over τ k s s′
-  pub budgets : (i : ℕ) → i < τ .rows → ¬ (i ≡ k) → s .waits i ≡ true → s′ .budget i ≡ s .budget i
-
--- row k's waiting job is over, and the waiting jobs of strictly later deadline gain its unused ticks as budget, or
+-- row k's waiting job is over early, and the waiting jobs of strictly later deadline gain its unused ticks as budget, or
 -- less; no other job gains any
-pub record Refund (τ : TaskSet) (k : ℕ) (s s′ : State) : Type 0 where
+pub record Finish (τ : TaskSet) (k : ℕ) (s s′ : State) : Type 0 where
   pub over : Over τ k s s′
   pub earlier : (i : ℕ) → i < τ .rows → ¬ (i ≡ k) → s .waits i ≡ true → s .due i ≤ s .due k → s′ .budget i ≤ s .budget i
   pub later : (i : ℕ) → i < τ .rows → ¬ (i ≡ k) → s .waits i ≡ true → s .due k < s .due i → s′ .budget i ≤ s .budget i + s .left k

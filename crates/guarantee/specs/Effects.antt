@@ -15,7 +15,7 @@ use Rattle.session.specs.declared.Answer.the-variants.{Arrived, Chosen, Advance
 use Rattle.session.specs.Reading.{idle, clockEnd, jobAt, tasks}
 use Rattle.session.specs.Sound.{sound}
 use Rattle.session.specs.Choose.{pickOf, pickUsed, spanOf}
-use Rattle.session.specs.Calls.{shown, refused, changed, arrivedJob, arriveIn, chooseIn, overJob, agedJobs, overAfter, advanceIn, finishIn, arriveOf, chooseOf, advanceOf, finishOf}
+use Rattle.session.specs.Calls.{shown, refused, changed, arrivedJob, arriveIn, chooseIn, jobsWith, agedJob, overAfter, advanceIn, unusedOf, givenJob, finishIn, arriveOf, chooseOf, advanceOf, finishOf}
 use Rattle.session.specs.Facts.{Running, Choice}
 use Rattle.guarantee.specs.Ledger.{Call, arrive, choose, advance, finish}
 use Rattle.guarantee.specs.Statement.{outcomeOf}
@@ -31,11 +31,11 @@ pub data Effect (s : Session) : Call → Session → Answer → Type 0 where
       (Chosen (pickOf s w) (spanOf s w (pickUsed s w) (pickOf s w)))
   advanced : (n : ℕ) → Choice s → n ≤ s .span → s .clock + n ≤ clockEnd
       → Effect s (advance n)
-      (changed s (s .clock + n) (agedJobs s n (s .count)) (cond (eqb (s .span) n) 0 (s .chosen)) (s .span - n))
+      (changed s (s .clock + n) (jobsWith s (agedJob s n) (s .count)) (cond (eqb (s .span) n) 0 (s .chosen)) (s .span - n))
       (Advanced (s .span - n) (overAfter s n))
   finished : Choice s → Running s
-      → Effect s finish (changed s (s .clock) (set (s .jobs) (s .chosen) (overJob s (s .chosen))) 0 0)
-      (Finished (s .chosen) (jobAt s (s .chosen) .left))
+      → Effect s finish (changed s (s .clock) (jobsWith s (givenJob s) (s .count)) 0 0)
+      (Finished (s .chosen) (unusedOf s))
 
 pub effect-of : (s : Session) → sound s ≡ true → (c : Call) → Effect s c (outcomeOf s c .session) (outcomeOf s c .answer)
 unfolding arriveOf chooseOf advanceOf finishOf arriveIn chooseIn advanceIn finishIn

@@ -1,6 +1,6 @@
 -- Which candidate each number of a draw names, and how long the chosen one may run (docs/SPECIFICATION.md §5.4). Assumes nothing.
 use Prim.Native.Nat.{ℕ, zero, suc, _+_, _-_, _%_, _≤_, _<_}
-use mathlib.Core.Path.{_≡_, refl, sym, ap, _∙_}
+use mathlib.Core.Path.{_≡_, refl, sym, _∙_}
 use mathlib.Core.Bool.{Bool, true, false, not, _&&_, true≢false}
 use mathlib.Core.List.{List}
 use mathlib.Core.Logic.{dite, _⊎_, ⊎-elim}
@@ -8,24 +8,21 @@ use native.Mathlib.Nat.{mod-lt}
 use native.Mathlib.Omega.{arith}
 use native.Mathlib.Decide.{decLt, ℕ-discrete}
 use lib.Dec.{leb, ltb, eqb}
-use lib.IntN.{subℕ}
 use lib.ListN.{getD}
 use borrow.Author.Tests.{ltb-true, leb-true, eqb-true, lt-ltb, le-ltb, eq-eqb, ne-eqb}
 use Rattle.bounded.specs.Tests.{both, and-true, and-both, gate, gate-on, gate-off, gate-le}
 use Rattle.bounded.specs.Sum.{sumTo, sum-le, sum-add, sum-const, sum-zero, sum-le-at, sum-lt}
 use Rattle.bounded.specs.All.{all-at}
 use Rattle.bounded.specs.Least.{least-high, least-at, least-before}
-use Rattle.bounded.specs.Signed.{difference-sub}
-use Rattle.edf.specs.Demand.{TaskSet, interference}
 use Rattle.table.specs.Rows.{horizon}
-use Rattle.table.specs.Budgets.{budgetOf}
 use Rattle.session.specs.declared.Session.{Session}
-use Rattle.session.specs.Reading.{idle, jobAt, tasks, waits, natural, startBy, startBudget}
+use Rattle.session.specs.Reading.{idle, jobAt, tasks, waits}
 use Rattle.session.specs.Order.{before, isHead, headOf, permits, candidate, candidates, position, rowWith, candidateAt}
 use Rattle.session.specs.Before.{before-self, before-trans, before-or}
 use Rattle.session.specs.First.{is-head, head-waits}
 use Rattle.session.specs.Choose.{draw, drawn, pickOf, room}
 use Rattle.session.specs.Facts.{Facts, facts-deadline}
+use Rattle.guarantee.specs.KeepsTable.{most-le}
 use Rattle.guarantee.specs.KeepsSound.{ahead-waits, idle-ahead}
 use Rattle.guarantee.specs.KeepsPick.{pick-may}
 use Rattle.guarantee.specs.Room.{Lesser, room-lesser, may-room}
@@ -329,24 +326,9 @@ row-room s c ne = simp (ne-eqb c idle ne) at (room-lesser s c)
 
 -- ---- a waiting job's budget is below 1,000,000
 
-natural-le : (a b : ℕ) → natural (subℕ a b) ≤ a - b
-natural-le a b = both (ltb a b) (λ e. simp e (omega arith)) (λ e. simp e (omega arith))
-
--- a starting budget is at most D - C
-start-le : (kind : ℕ) (τ : TaskSet) (i : ℕ) → startBudget kind τ i ≤ τ .D i - τ .C i
-unfolding startBudget startBy budgetOf
-start-le kind τ i =
-    both (eqb kind 1)
-    (λ e. simp e (omega (
-      arith,
-      natural-le (τ .D i) (τ .C i + interference τ i (τ .D i)),
-      ap natural (difference-sub (τ .D i) (τ .C i) (interference τ i (τ .D i))),
-    )))
-    (λ e. simp e (omega arith))
-
 waiting-small : (s : Session) → Facts s → (i : ℕ) → i < s .count → waits s i ≡ true → jobAt s i .budget < horizon
 waiting-small s f i l w =
-    omega (arith, f .job i l w, start-le (s .kind) (tasks s) i, facts-deadline s f i)
+    omega (arith, f .job i l w, most-le (tasks s) (s .kind) i, facts-deadline s f i)
 
 pub idle-room : (s : Session) → Facts s → (j : ℕ) → j < s .count → waits s j ≡ true → IdleRoom s
 idle-room s f j l w =

@@ -1,8 +1,8 @@
--- Every session that a list of calls leads to is sound, so no call answers 5 (docs/SPECIFICATION.md §6.2); a refused table's
--- record is not sound, so every call does. Assumes nothing.
-use Prim.Native.Nat.{ℕ}
-use mathlib.Core.Path.{_≡_, refl, subst}
-use mathlib.Core.Bool.{false}
+-- Every session that a list of calls leads to is sound, so no call answers 5, and no finish is cut (docs/SPECIFICATION.md
+-- §6.2); a refused table's record is not sound, so every call answers 5. Assumes nothing.
+use Prim.Native.Nat.{ℕ, _<_}
+use mathlib.Core.Path.{_≡_, refl, sym, subst}
+use mathlib.Core.Bool.{true, false}
 use mathlib.Core.List.{List, [], _∷_}
 use native.Mathlib.Omega.{arith}
 use borrow.Author.Tests.{ne-eqb}
@@ -11,16 +11,16 @@ use Rattle.session.specs.declared.Session.{Session}
 use Rattle.session.specs.declared.Answer.{Answer}
 use Rattle.session.specs.Reading.{rowsOf}
 use Rattle.session.specs.Sound.{soundRows, sound}
-use Rattle.session.specs.Calls.{shown}
+use Rattle.session.specs.Calls.{shown, gains}
 use Rattle.session.specs.Admit.{noSession, sessionOf}
-use Rattle.guarantee.specs.Ledger.{Call}
-use Rattle.guarantee.specs.Statement.{outcomeOf, sessionAfter, AlwaysSound, NeverFive, AlwaysFive}
+use Rattle.guarantee.specs.Ledger.{Call, finish}
+use Rattle.guarantee.specs.Statement.{outcomeOf, sessionAfter, AlwaysSound, NeverFive, AlwaysFive, GainsAll, CapCutsNothing}
 use Rattle.guarantee.specs.Good.{Good}
 use Rattle.guarantee.specs.Effects.{Effect, refusal, arrived, chosen, advanced, finished, effect-of, unsound-refused}
 use Rattle.guarantee.specs.KeepsArrive.{good-arrive}
 use Rattle.guarantee.specs.KeepsChoose.{good-choose}
 use Rattle.guarantee.specs.KeepsAdvance.{good-advance}
-use Rattle.guarantee.specs.KeepsFinish.{good-finish}
+use Rattle.guarantee.specs.KeepsFinish.{good-finish, finish-whole}
 use Rattle.guarantee.specs.KeepsFresh.{good-fresh}
 
 -- each call, where the table is the rows that the session holds
@@ -29,7 +29,7 @@ rows-effect s g (refusal a h) = g
 rows-effect s g (arrived k row ready) = good-arrive s g k row ready
 rows-effect s g (chosen w) = good-choose s g w
 rows-effect s g (advanced n ch high end) = good-advance s g ch n high end
-rows-effect s g (finished ch r) = good-finish s g (s .chosen) (r .known) (r .waiting)
+rows-effect s g (finished ch r) = good-finish s g (r .known) (r .waiting)
 
 -- and that is so of every good session
 pub good-call : (l : List ℕ) (s : Session) → Good l s → (c : Call) → Good l (outcomeOf s c .session)
@@ -58,6 +58,20 @@ not-five (finished ch r) z = omega arith
 
 pub never-five : NeverFive
 never-five l t e calls c = not-five (effect-of (sessionAfter (sessionOf l t) calls) (always-sound l t e calls) c)
+
+-- a finish that is accepted is not cut
+pub cap-cuts-nothing : CapCutsNothing
+cap-cuts-nothing l t e calls z i h w =
+    let g = good-reached l t e calls in
+    by (subst (λ (x : List ℕ). Good x (sessionAfter (sessionOf l t) calls)) (sym (g .rows)) g)
+    (effect-of (sessionAfter (sessionOf l t) calls) (g .sound) finish) z (omega (arith, g .count)) w
+  where
+    by : {s s′ : Session} {a : Answer} → Good (rowsOf s) s → Effect s finish s′ a → shown a .number ≡ 0 → i < s .count → gains s i ≡ true
+        → GainsAll s s′ a i
+    by g (refusal a six) z h w = absurd (omega arith)
+    by {s} g (finished ch r) z h w =
+        let f = finish-whole s g (r .known) (r .waiting) i h w in
+        record { fits = omega (arith, f .0); all = omega (arith, f .1) }
 
 -- a record without rows is of no table
 none-unsound : sound noSession ≡ false

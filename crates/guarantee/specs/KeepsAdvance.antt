@@ -8,42 +8,41 @@ use native.Mathlib.Decide.{decLt, ℕ-discrete}
 use lib.Dec.{ltb, eqb}
 use borrow.Author.Tests.{eqb-true, eqb-false, ltb-true, lt-ltb}
 use Rattle.bounded.specs.Tests.{both}
-use Rattle.bounded.specs.Fold.{put-length}
 use Rattle.edf.specs.State.{Same, Head}
 use Rattle.edf.specs.Steps.{Run, Idle}
 use Rattle.edf.specs.Safe.{Step, Earliest}
 use Rattle.session.specs.declared.Session.{Session}
 use Rattle.session.specs.Reading.{idle, clockEnd, jobAt, rowsOf, tasks, waits, ahead, stateOf}
-use Rattle.session.specs.Calls.{changed, agedJob, agedJobs}
+use Rattle.session.specs.Calls.{changed, jobsWith, agedJob}
+use Rattle.session.specs.Jobs.{jobs-length}
 use Rattle.session.specs.Facts.{Running, Choice}
 use Rattle.guarantee.specs.Good.{SafeAs, Good, good-places}
-use Rattle.guarantee.specs.KeepsTable.{start-tight}
+use Rattle.guarantee.specs.KeepsTable.{most-tight}
 use Rattle.guarantee.specs.KeepsSound.{ahead-waits, ahead-earlier, earlier-ahead, idle-ahead, later-not}
-use Rattle.guarantee.specs.KeepsAged.{Passed, Worked, aged-passed, aged-worked}
+use Rattle.guarantee.specs.KeepsJobs.{Passed, Worked, rest-same, aged-passed, aged-worked}
 use Rattle.guarantee.specs.KeepsStep.{as-step, Bounds, good-facts, good-bounds, good-changed}
 
 -- ---- n ticks of a choice in force
 
 module _ (s : Session) (g : Good (rowsOf s) s) (ch : Choice s) (n : ℕ) (within : n ≤ s .span) (c : ℕ) where
   abbrev after : Session
-  after = changed s (s .clock + n) (agedJobs s n (s .count)) c (s .span - n)
+  after = changed s (s .clock + n) (jobsWith s (agedJob s n) (s .count)) c (s .span - n)
 
   known : (i : ℕ) → i < tasks s .rows → i < s .count
   known i l = omega (arith, g .count)
 
   passed : (i : ℕ) → i < s .count → ¬ (i ≡ s .chosen) → Passed s n i (jobAt after i)
-  passed = aged-passed s n (good-places g)
+  passed = aged-passed s (good-places g) n
 
   worked : (i : ℕ) → i < s .count → i ≡ s .chosen → Worked s n i (jobAt after i)
-  worked = aged-worked s n (good-places g)
+  worked = aged-worked s (good-places g) n
 
   same : (i : ℕ) → i < s .count → ¬ (i ≡ s .chosen) → Same (stateOf s) (stateOf after) i
-  unfolding waits
-  same i l ne = let p = passed i l ne in record { next = p .next; due = p .due; left = p .left; waits = ap (ltb 0) (p .left) }
+  same i l ne = rest-same s after i (passed i l ne .rest)
 
   -- each job that loses budget has enough of it
   pays : (i : ℕ) → i < s .count → ¬ (i ≡ s .chosen) → ahead s (s .chosen) i ≡ true → jobAt after i .budget + n ≡ jobAt s i .budget
-  pays i l ne a = omega (arith, passed i l ne .loses a, ch .affords i l a)
+  pays i l ne a = omega (arith, passed i l ne .changes a, ch .affords i l a)
 
   -- in a tight session no job has any, so none loses budget
   tight-none : s .kind ≡ 2 → (i : ℕ) → i < s .count → ahead s (s .chosen) i ≡ true → ⊥
@@ -53,7 +52,7 @@ module _ (s : Session) (g : Good (rowsOf s) s) (ch : Choice s) (n : ℕ) (within
         ch .some,
         ch .affords i l a,
         good-bounds s g i l .budget (ahead-waits s (s .chosen) i a),
-        start-tight (tasks s) (s .kind) k i,
+        most-tight (tasks s) (s .kind) k i,
       )
 
   -- ---- a row runs
@@ -127,19 +126,19 @@ module _ (s : Session) (g : Good (rowsOf s) s) (ch : Choice s) (n : ℕ) (within
       })
       (λ ne.
       let p = passed i l ne in
+      let r = p .rest in
       record {
-        next = omega (arith, p .next, f .next);
+        next = omega (arith, r .next, f .next);
         budget = λ h.
             let k = ltb-true 0 (jobAt after i .left) h in
-            let b = f .budget (lt-ltb 0 (jobAt s i .left) (omega (arith, p .left))) in
-            both (ahead s (s .chosen) i) (λ a. omega (arith, p .loses a)) (λ a. omega (arith, p .stays a));
+            let b = f .budget (lt-ltb 0 (jobAt s i .left) (omega (arith, r .left))) in
+            both (ahead s (s .chosen) i) (λ a. omega (arith, p .changes a)) (λ a. omega (arith, p .stays a));
       })
 
   advance-good : s .clock + n ≤ clockEnd → (s .span - n ≡ 0) ⊎ Choice after → Good (rowsOf s) after
-  unfolding agedJobs
   advance-good end choice =
-      good-changed s g (s .clock + n) (agedJobs s n (s .count)) c (s .span - n)
-      (put-length (agedJob s n) (s .jobs) (s .count) ∙ g .places) end (⊎-elim idle-safe run-safe (ch .runs)) bounds choice
+      good-changed s g (s .clock + n) (jobsWith s (agedJob s n) (s .count)) c (s .span - n)
+      (jobs-length s (agedJob s n) (s .count) ∙ g .places) end (⊎-elim idle-safe run-safe (ch .runs)) bounds choice
 
 -- ---- the choice, where its span is not used up
 
@@ -189,7 +188,7 @@ module _ (s : Session) (g : Good (rowsOf s) s) (ch : Choice s) (n : ℕ) (more :
   }
 
 pub good-advance : (s : Session) → Good (rowsOf s) s → Choice s → (n : ℕ) → n ≤ s .span → s .clock + n ≤ clockEnd
-    → Good (rowsOf s) (changed s (s .clock + n) (agedJobs s n (s .count)) (cond (eqb (s .span) n) 0 (s .chosen)) (s .span - n))
+    → Good (rowsOf s) (changed s (s .clock + n) (jobsWith s (agedJob s n) (s .count)) (cond (eqb (s .span) n) 0 (s .chosen)) (s .span - n))
 good-advance s g ch n high end =
     both (eqb (s .span) n)
     (λ e. let u = eqb-true (s .span) n e in simp e (advance-good s g ch n high 0 end (inl (omega arith))))

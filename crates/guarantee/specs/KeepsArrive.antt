@@ -13,7 +13,7 @@ use Rattle.session.specs.declared.Session.{Session}
 use Rattle.session.specs.Reading.{jobAt, rowsOf, tasks, waits, startBudget, stateOf}
 use Rattle.session.specs.Calls.{arrivedJob}
 use Rattle.guarantee.specs.Good.{Good}
-use Rattle.guarantee.specs.KeepsTable.{start-loose, start-tight}
+use Rattle.guarantee.specs.KeepsTable.{start-loose, start-tight, start-most}
 use Rattle.guarantee.specs.KeepsStep.{as-step, good-kind, withJob, set-at, set-other, set-others, good-set}
 
 module _ (s : Session) (g : Good (rowsOf s) s) (k : ℕ) (row : k < s .count) (ready : jobAt s k .next ≤ s .clock) where
@@ -47,7 +47,7 @@ module _ (s : Session) (g : Good (rowsOf s) s) (k : ℕ) (row : k < s .count) (r
 
   pub good-arrive : Good (rowsOf s) after
   good-arrive =
-      good-set s g k row (arrivedJob s k) (omega arith) (omega arith)
+      good-set s g k row (arrivedJob s k) (omega arith) (start-most (tasks s) (s .kind) k)
       (as-step (tasks s) (g .fit) (g .feasible) (stateOf s) (stateOf after) (g .safe)
       (λ e. Step.arrived k (startBudget (s .kind) (tasks s) k) (arrive-step _ refl) (within e))
       (λ e. Earliest.arrived k (arrive-step 0 (start-tight (tasks s) (s .kind) e k))))

@@ -1,41 +1,118 @@
--- A finish keeps a session good (docs/SPECIFICATION.md §5.6). Assumes nothing.
-use Prim.Native.Nat.{ℕ, _<_}
-use mathlib.Core.Path.{_≡_, refl, ap}
+-- A finish keeps a session good, and the cap on what it gives never cuts anything (docs/SPECIFICATION.md §5.6). Assumes nothing.
+use Prim.Native.Nat.{ℕ, _+_, _-_, _≤_, _<_}
+use mathlib.Core.Path.{_≡_, refl, ap, _∙_}
 use mathlib.Core.Bool.{true}
+use mathlib.Core.Logic.{dite, inl}
 use native.Mathlib.Omega.{arith}
-use lib.Dec.{ltb}
-use Rattle.edf.specs.Steps.{Finish}
+use native.Mathlib.Decide.{ℕ-discrete}
+use lib.Dec.{ltb, eqb}
+use borrow.Author.Tests.{eq-eqb, eqb-true, ltb-true, lt-ltb}
+use Rattle.bounded.specs.Tests.{both, and-true}
+use Rattle.edf.specs.Steps.{Over, Finish}
+use Rattle.edf.specs.Finish.{finish-cap}
 use Rattle.edf.specs.Safe.{Step, Earliest}
+use Rattle.table.specs.Rows.{fit-lawful}
 use Rattle.session.specs.declared.Job.{Job}
 use Rattle.session.specs.declared.Session.{Session}
-use Rattle.session.specs.Reading.{jobAt, rowsOf, tasks, waits, stateOf}
-use Rattle.session.specs.Calls.{overJob}
-use Rattle.guarantee.specs.Good.{Good}
-use Rattle.guarantee.specs.KeepsStep.{as-step, good-bounds, withJob, set-at, set-other, set-others, good-set}
+use Rattle.session.specs.Reading.{jobAt, rowsOf, tasks, waits, mostBudget, stateOf}
+use Rattle.session.specs.Calls.{changed, jobsWith, overJob, unusedOf, gains, givenJob}
+use Rattle.session.specs.Jobs.{jobs-length}
+use Rattle.guarantee.specs.Good.{SafeAs, asLoose, asTight, Good, good-places}
+use Rattle.guarantee.specs.KeepsJobs.{Given, rest-same, given-other, given-over}
+use Rattle.guarantee.specs.KeepsStep.{as-step, Bounds, good-facts, good-bounds, good-changed}
 
-module _ (s : Session) (g : Good (rowsOf s) s) (k : ℕ) (row : k < s .count) (waiting : waits s k ≡ true) where
+-- who gains
+gains-means : (s : Session) (i : ℕ) → gains s i ≡ true → (s .kind ≡ 1) × (waits s i ≡ true) × (jobAt s (s .chosen) .due < jobAt s i .due)
+unfolding gains
+gains-means s i e =
+    let a = and-true (eqb (s .kind) 1) _ e in
+    let b = and-true (waits s i) _ (a .1) in
+    (eqb-true (s .kind) 1 (a .0), b .0, ltb-true _ _ (b .1))
+
+module _ (s : Session) (g : Good (rowsOf s) s) (row : s .chosen < s .count) (waiting : waits s (s .chosen) ≡ true) where
   abbrev after : Session
-  after = withJob s g k row (overJob s k)
+  after = changed s (s .clock) (jobsWith s (givenJob s) (s .count)) 0 0
 
-  is : jobAt after k ≡ overJob s k
-  is = set-at s g k row (overJob s k)
+  known : (i : ℕ) → i < tasks s .rows → i < s .count
+  known i l = omega (arith, g .count)
 
-  finish-step : Finish (tasks s) k (stateOf s) (stateOf after)
+  is : jobAt after (s .chosen) ≡ overJob (jobAt s (s .chosen))
+  is = given-over s (good-places g) row
+
+  given : (i : ℕ) → i < s .count → ¬ (i ≡ s .chosen) → Given s i (jobAt after i)
+  given = given-other s (good-places g)
+
+  over-step : Over (tasks s) (s .chosen) (stateOf s) (stateOf after)
   unfolding waits
-  finish-step = record {
-    over = record {
-      row = omega (arith, g .count);
-      waiting = waiting;
-      clock = refl;
-      next = ap (λ (j : Job). j .next) is;
-      waits = ap (λ (j : Job). ltb 0 (j .left)) is;
-      others = set-others s g k row (overJob s k);
-    };
-    budgets = λ i l ne w. ap (λ (j : Job). j .budget) (set-other s g k row (overJob s k) i ne);
+  over-step = record {
+    row = omega (arith, g .count);
+    waiting = waiting;
+    clock = refl;
+    next = ap (λ (j : Job). j .next) is;
+    waits = ap (λ (j : Job). ltb 0 (j .left)) is;
+    others = λ i l ne. rest-same s after i (given i (known i l) ne .rest);
   }
+
+  -- no job gains more than the unused ticks, and one of no later deadline nothing
+  finish-step : Finish (tasks s) (s .chosen) (stateOf s) (stateOf after)
+  finish-step = record {
+    over = over-step;
+    earlier = λ i l ne w h. both (gains s i)
+        (λ e. absurd (omega (arith, gains-means s i e .2)))
+        (λ e. omega (arith, given i (known i l) ne .stays e));
+    later = λ i l ne w h. both (gains s i)
+        (λ e. omega (arith, given i (known i l) ne .changes e))
+        (λ e. omega (arith, given i (known i l) ne .stays e));
+  }
+
+  -- ---- soundness
+
+  -- no budget is above the most: a job that gains is in a loose session, and there the cap is the most
+  bounds : (i : ℕ) → i < s .count → Bounds (tasks s) after i
+  unfolding waits mostBudget
+  bounds i l =
+      let f = good-bounds s g i l in
+      dite (ℕ-discrete i (s .chosen))
+      (λ e. rw e
+      (let c = good-bounds s g (s .chosen) row in
+      record {
+        next = omega (arith, ap (λ (j : Job). j .next) is, c .next);
+        budget = λ h. absurd (omega (arith, ltb-true 0 (jobAt after (s .chosen) .left) h, ap (λ (j : Job). j .left) is));
+      }))
+      (λ ne.
+      let p = given i l ne in
+      let r = p .rest in
+      record {
+        next = omega (arith, r .next, f .next);
+        budget = λ h. both (gains s i)
+            (λ e. simp (eq-eqb (s .kind) 1 (gains-means s i e .0)) (omega (arith, p .changes e)))
+            (λ e.
+            let k = ltb-true 0 (jobAt after i .left) h in
+            omega (arith, p .stays e, f .budget (lt-ltb 0 (jobAt s i .left) (omega (arith, r .left)))));
+      })
 
   pub good-finish : Good (rowsOf s) after
   good-finish =
-      good-set s g k row (overJob s k) (good-bounds s g k row .next) (omega arith)
+      good-changed s g (s .clock) (jobsWith s (givenJob s) (s .count)) 0 0
+      (jobs-length s (givenJob s) (s .count) ∙ g .places) (good-facts s g .clock)
       (as-step (tasks s) (g .fit) (g .feasible) (stateOf s) (stateOf after) (g .safe)
-      (λ e. Step.finished k finish-step) (λ e. Earliest.finished k finish-step))
+      (λ e. Step.finished (s .chosen) finish-step) (λ e. Earliest.finished (s .chosen) finish-step))
+      bounds (inl refl)
+
+  -- ---- the cap
+
+  room : {k : ℕ} → SafeAs (tasks s) (stateOf s) k → k ≡ 1 → (i : ℕ) → i < tasks s .rows → waits after i ≡ true
+      → jobAt s (s .chosen) .due ≤ jobAt s i .due → jobAt s i .budget + unusedOf s + tasks s .C i ≤ tasks s .D i
+  room (asLoose v) e i l w h =
+      finish-cap (tasks s) (fit-lawful (tasks s) (g .fit)) (stateOf s) (stateOf after) (s .chosen) over-step (v .slack) (v .elapsed) i l w h
+  room (asTight v) e i l w h = absurd (omega arith)
+
+  -- THE CAP CUTS NOTHING
+  pub finish-whole : (i : ℕ) → i < s .count → gains s i ≡ true
+      → (jobAt s i .budget + unusedOf s ≤ tasks s .D i - tasks s .C i) × (jobAt after i .budget ≡ jobAt s i .budget + unusedOf s)
+  finish-whole i l e =
+      let m = gains-means s i e in
+      let ne : ¬ (i ≡ s .chosen) = λ q. omega (arith, m .2, ap (λ (z : ℕ). jobAt s z .due) q) in
+      let p = given i l ne in
+      let r = room (g .safe) (m .0) i (omega (arith, g .count)) (rest-same s after i (p .rest) .waits ∙ m .1) (omega (arith, m .2)) in
+      (omega arith, omega (arith, p .changes e))

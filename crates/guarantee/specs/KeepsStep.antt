@@ -17,7 +17,7 @@ use Rattle.edf.specs.Safe.{Step, safe-start, safe-step, Earliest, earliest-star
 use Rattle.table.specs.Rows.{Fit, fit-lawful}
 use Rattle.session.specs.declared.Job.{Job}
 use Rattle.session.specs.declared.Session.{Session}
-use Rattle.session.specs.Reading.{clockEnd, noJob, jobAt, rowsOf, tasks, waits, startBudget, stateOf}
+use Rattle.session.specs.Reading.{clockEnd, noJob, jobAt, rowsOf, tasks, waits, mostBudget, stateOf}
 use Rattle.session.specs.Calls.{changed}
 use Rattle.session.specs.Facts.{Choice, Facts, facts-of}
 use Rattle.guarantee.specs.Good.{SafeAs, asLoose, asTight, as-formed, Good, good-places, in-table}
@@ -56,7 +56,7 @@ job-same s s′ i e = record {
 -- what soundness asks of row i, besides the invariant of the theory
 pub record Bounds (τ : TaskSet) (s : Session) (i : ℕ) : Type 0 where
   pub next : jobAt s i .next ≤ s .clock + τ .T i
-  pub budget : waits s i ≡ true → jobAt s i .budget ≤ startBudget (s .kind) τ i
+  pub budget : waits s i ≡ true → jobAt s i .budget ≤ mostBudget (s .kind) τ i
 
 module _ (s : Session) (g : Good (rowsOf s) s) where
   pub good-facts : Facts s
@@ -109,7 +109,7 @@ module _ (s : Session) (g : Good (rowsOf s) s) where
     pub set-others : Others (tasks s) k (stateOf s) (stateOf withJob)
     set-others i l ne = job-same s withJob i (set-other i ne)
 
-    pub good-set : job .next ≤ s .clock + tasks s .T k → job .budget ≤ startBudget (s .kind) (tasks s) k
+    pub good-set : job .next ≤ s .clock + tasks s .T k → job .budget ≤ mostBudget (s .kind) (tasks s) k
         → SafeAs (tasks s) (stateOf withJob) (s .kind) → Good (rowsOf s) withJob
     good-set a b safe =
         good-changed (s .clock) (set (s .jobs) k job) 0 0 (length-set (s .jobs) k job ∙ g .places) (good-facts .clock) safe

@@ -6,8 +6,8 @@ pub mod KeepsSound
 pub mod Effects
 pub mod KeepsStep
 pub mod KeepsArrive
+pub mod KeepsJobs
 pub mod KeepsFinish
-pub mod KeepsAged
 pub mod KeepsAdvance
 pub mod KeepsPick
 pub mod Room

@@ -1,6 +1,6 @@
 -- What is guaranteed over every list of calls (docs/SPECIFICATION.md §6.2), of the record of a refused table (§5.1), of the
--- order of jobs and of a choice in a tight session (§5.4). Definitions only. Assumes nothing.
-use Prim.Native.Nat.{ℕ, _+_, _≤_, _<_}
+-- order of jobs and of a choice in a tight session (§5.4), and of what a finish gives (§5.6). Definitions only. Assumes nothing.
+use Prim.Native.Nat.{ℕ, _+_, _-_, _≤_, _<_}
 use mathlib.Core.Path.{_≡_}
 use mathlib.Core.Bool.{true, false}
 use mathlib.Core.List.{List, [], _∷_}
@@ -11,12 +11,13 @@ use Rattle.table.specs.Rows.{tasksOf}
 use Rattle.table.specs.Verdict.{answerOf}
 pub use Rattle.table.specs.Theorems.{OverloadDeserved}
 use Rattle.session.specs.declared.Session.{Session}
+use Rattle.session.specs.declared.Answer.{Answer}
 use Rattle.session.specs.declared.Outcome.{Outcome}
 use Rattle.session.specs.Reading.{idle, jobAt, tasks, waits}
 use Rattle.session.specs.Sound.{sound}
 use Rattle.session.specs.Order.{arrivalOf, cameBefore, headOf, permits, candidate, candidates}
 use Rattle.session.specs.Choose.{pickOf, spanOf, pickUsed, usedOf}
-use Rattle.session.specs.Calls.{shown, three, arriveOf, chooseOf, advanceOf, finishOf}
+use Rattle.session.specs.Calls.{shown, three, gains, arriveOf, chooseOf, advanceOf, finishOf}
 use Rattle.session.specs.Admit.{sessionOf}
 use Rattle.guarantee.specs.Ledger.{Call, arrive, choose, advance, finish, Event, End, none, at, Entry, Ledger, ledgerOf}
 
@@ -112,6 +113,22 @@ ArrivalsTold =
     (l : List ℕ) (t : ℕ) → answerOf l t .number ≡ 0
     → (calls : List Call) (i : ℕ) → i < tasksOf l .rows → waits (sessionAfter (sessionOf l t) calls) i ≡ true
     → Arrived i (arrivalOf (sessionAfter (sessionOf l t) calls) i) (ledgerOf (tasksOf l) (eventsOf (sessionOf l t) calls) .entries)
+
+-- row i's job gains all of the ticks that the answer a of a finish reports as unused, which leads from s to s′: the cap,
+-- D − C, does not cut
+pub record GainsAll (s s′ : Session) (a : Answer) (i : ℕ) : Type 0 where
+  pub fits : jobAt s i .budget + shown a .second ≤ tasks s .D i - tasks s .C i
+  pub all : jobAt s′ i .budget ≡ jobAt s i .budget + shown a .second
+
+-- THE CAP CUTS NOTHING: from the fresh session of every admitted table, after every list of calls, where a finish is accepted,
+-- each job that gains has all of the unused ticks as budget besides its own
+abbrev pub CapCutsNothing : Type 0
+CapCutsNothing =
+    (l : List ℕ) (t : ℕ) → answerOf l t .number ≡ 0
+    → (calls : List Call) → shown (finishOf (sessionAfter (sessionOf l t) calls) .answer) .number ≡ 0
+    → (i : ℕ) → i < tasksOf l .rows → gains (sessionAfter (sessionOf l t) calls) i ≡ true
+    → GainsAll (sessionAfter (sessionOf l t) calls) (finishOf (sessionAfter (sessionOf l t) calls) .session)
+    (finishOf (sessionAfter (sessionOf l t) calls) .answer) i
 
 -- the head is the only candidate
 pub record HeadOnly (s : Session) : Type 0 where

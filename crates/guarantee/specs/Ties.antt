@@ -17,16 +17,16 @@ use Rattle.session.specs.declared.Session.{Session}
 use Rattle.session.specs.declared.Answer.{Answer}
 use Rattle.session.specs.Reading.{idle, noJob, jobAt}
 use Rattle.session.specs.Facts.{Running}
-use Rattle.session.specs.Calls.{Shown, shown, changed, arrivedJob, overJob, agedJobs}
+use Rattle.session.specs.Calls.{Shown, shown, changed, jobsWith, arrivedJob, overJob, agedJob, givenJob}
 use Rattle.session.specs.Admit.{freshOf, sessionOf}
 use Rattle.guarantee.specs.Ledger.{Call, arrive, choose, advance, finish, Entry, Ledger, empty, ran, ended, onLatest, noted, kept}
 use Rattle.guarantee.specs.Statement.{outcomeOf, InTime}
 use Rattle.guarantee.specs.Good.{Good, good-places, in-table}
 use Rattle.guarantee.specs.Effects.{Effect, refusal, arrived, chosen, advanced, finished, effect-of}
 use Rattle.guarantee.specs.KeepsFresh.{fresh-job}
-use Rattle.guarantee.specs.KeepsAged.{agedAt}
+use Rattle.guarantee.specs.KeepsJobs.{Rebudgeted, jobAfter, aged-passed, given-other, given-over}
 use Rattle.guarantee.specs.TiesRow.{Stands, waiting, Follows, nothing, other, InRow, stands-ended, stands-ran, follows-kept, follows-new, follows-changed, follows-other, follows-timely, each-timely}
-use Rattle.guarantee.specs.TiesJobs.{ran-chosen, ran-other, time-left, row-free, running-time}
+use Rattle.guarantee.specs.TiesJobs.{ran-chosen, ran-none, time-left, row-free, running-time}
 
 -- the clocks agree, so do the chosen rows where a choice is in force, and the entries of each row follow its job
 pub record Tied (l : List ℕ) (g : Ledger) (s : Session) : Type 0 where
@@ -64,6 +64,11 @@ module _ (l : List ℕ) (g : Ledger) (s : Session) (good : Good l s) (tied : Tie
   unfolding noted
   tied-choose w a c n e = record { clock = tied .clock; chosen = λ force. e; rows = tied .rows }
 
+  -- a row whose job at most has another budget
+  rest-row : (f : ℕ → Job) (i : ℕ) (es : List Entry) → (i < s .count → Rebudgeted (jobAt s i) (jobAfter s f i))
+      → Follows (tasksOf l) i (jobAt s i) es → Follows (tasksOf l) i (jobAfter s f i) es
+  rest-row f i es rest h = follows-kept (tasksOf l) i (ran-none good f i rest) h
+
   -- a row runs: the latest entry of that row changes by f, and no other entry
   module _ (force : 1 ≤ s .span) (r : Running s) (f : Entry → Entry) (keeps : InRow f) where
     chosen-row : (j : Job)
@@ -77,39 +82,41 @@ module _ (l : List ℕ) (g : Ledger) (s : Session) (good : Good l s) (tied : Tie
     other-row i ne = rw (tied .chosen force) (follows-other (tasksOf l) i (s .chosen) f keeps ne (tied .rows i))
 
   tied-finish : (a : Shown) → 1 ≤ s .span → Running s
-      → Tied l (noted (tasksOf l) g finish a) (changed s (s .clock) (set (s .jobs) (s .chosen) (overJob s (s .chosen))) 0 0)
+      → Tied l (noted (tasksOf l) g finish a) (changed s (s .clock) (jobsWith s (givenJob s) (s .count)) 0 0)
   unfolding noted
   tied-finish a force r =
       let t = running-time good force r in
       record {
         clock = tied .clock;
         chosen = λ force. absurd (omega arith);
-        rows = set-rows (s .chosen) (overJob s (s .chosen)) (noted (tasksOf l) g finish a .entries) (r .known)
-            (chosen-row force r (ended (g .clock)) (λ e. refl) (overJob s (s .chosen))
-            (λ e q. stands-ended (tasksOf l) (s .chosen) (g .clock) e (t .0) (omega (arith, tied .clock, t .1)) refl))
-            (other-row force r (ended (g .clock)) (λ e. refl));
+        rows = λ i. dite (ℕ-discrete i (s .chosen))
+            (λ e. rw (e, given-over s (good-places good) (r .known))
+            (chosen-row force r (ended (g .clock)) (λ e. refl) (overJob (jobAt s (s .chosen)))
+            (λ e q. stands-ended (tasksOf l) (s .chosen) (g .clock) e (t .0) (omega (arith, tied .clock, t .1)) refl)))
+            (λ ne. rest-row (givenJob s) i _ (λ h. given-other s (good-places good) i h ne .rest)
+            (other-row force r (ended (g .clock)) (λ e. refl) i ne));
       }
 
   -- n ticks, not more than the span
   module _ (n : ℕ) (a : Shown) (force : 1 ≤ s .span) (most : n ≤ s .span) where
     -- a row that does not run
     idle-row : (i : ℕ) (es : List Entry) → (i < s .count → ¬ (i ≡ s .chosen))
-        → Follows (tasksOf l) i (jobAt s i) es → Follows (tasksOf l) i (agedAt s n i) es
-    idle-row i es ne h = follows-kept (tasksOf l) i (ran-other good n i ne) h
+        → Follows (tasksOf l) i (jobAt s i) es → Follows (tasksOf l) i (jobAfter s (agedJob s n) i) es
+    idle-row i es ne h = rest-row (agedJob s n) i es (λ k. aged-passed s (good-places good) n i k (ne k) .rest) h
 
     -- the row that runs
     run-row : Running s
-        → Follows (tasksOf l) (s .chosen) (agedAt s n (s .chosen)) (onLatest (g .chosen) (ran (tasksOf l) (g .clock + n) n) (g .entries))
+        → Follows (tasksOf l) (s .chosen) (jobAfter s (agedJob s n) (s .chosen)) (onLatest (g .chosen) (ran (tasksOf l) (g .clock + n) n) (g .entries))
     run-row r =
         let t = running-time good force r in
-        chosen-row force r (ran (tasksOf l) (g .clock + n) n) (λ e. refl) (agedAt s n (s .chosen))
+        chosen-row force r (ran (tasksOf l) (g .clock + n) n) (λ e. refl) (jobAfter s (agedJob s n) (s .chosen))
         (λ e q. stands-ran (tasksOf l) (s .chosen) (g .clock + n) n e q (t .0) (omega (arith, r .within))
         (omega (arith, tied .clock, t .1, r .within))
         (ran-chosen good n (r .known)))
 
     -- under idle no entry changes
     advance-rows : (s .chosen ≡ idle) ⊎ Running s
-        → (i : ℕ) → Follows (tasksOf l) i (agedAt s n i) (noted (tasksOf l) g (advance n) a .entries)
+        → (i : ℕ) → Follows (tasksOf l) i (jobAfter s (agedJob s n) i) (noted (tasksOf l) g (advance n) a .entries)
     unfolding noted
     advance-rows (inl e) i =
         simp (eq-eqb (g .chosen) idle (tied .chosen force ∙ e))
@@ -121,7 +128,7 @@ module _ (l : List ℕ) (g : Ledger) (s : Session) (good : Good l s) (tied : Tie
 
     tied-advance : (s .chosen ≡ idle) ⊎ Running s
         → Tied l (noted (tasksOf l) g (advance n) a)
-        (changed s (s .clock + n) (agedJobs s n (s .count)) (cond (eqb (s .span) n) 0 (s .chosen)) (s .span - n))
+        (changed s (s .clock + n) (jobsWith s (agedJob s n) (s .count)) (cond (eqb (s .span) n) 0 (s .chosen)) (s .span - n))
     unfolding noted
     tied-advance c = record {
       clock = omega (arith, tied .clock);

@@ -9,11 +9,14 @@ use native.Mathlib.Decide.{decLt}
 use borrow.Author.Tests.{lt-ltb}
 use Rattle.edf.specs.State.{load-has}
 use Rattle.table.specs.Rows.{tasksOf, fit-lawful}
+use Rattle.session.specs.declared.Job.{Job}
 use Rattle.session.specs.declared.Session.{Session}
 use Rattle.session.specs.Reading.{jobAt, waits, stateOf}
 use Rattle.session.specs.Facts.{Running}
+use Rattle.session.specs.Calls.{agedJob}
+use Rattle.session.specs.Jobs.{jobs-past}
 use Rattle.guarantee.specs.Good.{as-formed, as-slack, Good, good-places, in-table}
-use Rattle.guarantee.specs.KeepsAged.{agedAt, aged-passed, aged-worked, aged-past}
+use Rattle.guarantee.specs.KeepsJobs.{Rebudgeted, jobAfter, aged-worked}
 use Rattle.guarantee.specs.TiesRow.{Ran}
 
 module _ {l : List ℕ} {s : Session} (good : Good l s) where
@@ -46,14 +49,12 @@ module _ {l : List ℕ} {s : Session} (good : Good l s) where
   running-time force r = (omega (arith, r .within), time-left (s .chosen) (r .known) (omega (arith, r .within)))
 
   -- after n ticks the chosen job has run for n,
-  pub ran-chosen : (n : ℕ) → s .chosen < s .count → Ran n (jobAt s (s .chosen)) (agedAt s n (s .chosen))
-  ran-chosen n h = let w = aged-worked s n (good-places good) (s .chosen) h refl in record { left = w .left; due = w .due }
+  pub ran-chosen : (n : ℕ) → s .chosen < s .count → Ran n (jobAt s (s .chosen)) (jobAfter s (agedJob s n) (s .chosen))
+  ran-chosen n h = let w = aged-worked s (good-places good) n (s .chosen) h refl in record { left = w .left; due = w .due }
 
-  -- and no other has
-  pub ran-other : (n i : ℕ) → (i < s .count → ¬ (i ≡ s .chosen)) → Ran 0 (jobAt s i) (agedAt s n i)
-  ran-other n i ne =
+  -- and a job that at most has another budget has not run
+  pub ran-none : (f : ℕ → Job) (i : ℕ) → (i < s .count → Rebudgeted (jobAt s i) (jobAfter s f i)) → Ran 0 (jobAt s i) (jobAfter s f i)
+  ran-none f i rest =
       dite (decLt i (s .count))
-      (λ h.
-      let p = aged-passed s n (good-places good) i h (ne h) in
-      record { left = omega (arith, p .left); due = λ some. p .due })
-      (λ h. rw (aged-past s n i (omega arith)) (record { left = omega arith; due = λ some. refl }))
+      (λ h. let r = rest h in record { left = omega (arith, r .left); due = λ some. r .due })
+      (λ h. rw (jobs-past s f (s .count) i (omega arith)) (record { left = omega arith; due = λ some. refl }))

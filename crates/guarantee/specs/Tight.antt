@@ -10,21 +10,21 @@ use borrow.Author.Tests.{lt-ltb, lt-leb}
 use Rattle.bounded.specs.Tests.{both, gate, gate-off}
 use Rattle.bounded.specs.All.{all-of}
 use Rattle.session.specs.declared.Session.{Session}
-use Rattle.session.specs.Reading.{jobAt, ahead, startBy, startBudget}
+use Rattle.session.specs.Reading.{jobAt, tasks, ahead}
 use Rattle.session.specs.Order.{headOf, candidates}
 use Rattle.session.specs.First.{none-waits, head-waits, head-least}
 use Rattle.session.specs.Alone.{only-row, not-idle, one-candidate}
 use Rattle.session.specs.Choose.{drawn, pickOf, room, unopposed, lengthDrawn, spanOf, pickUsed, usedOf}
 use Rattle.session.specs.Facts.{Facts, facts-of}
 use Rattle.guarantee.specs.Statement.{TightHead}
+use Rattle.guarantee.specs.KeepsTable.{most-tight}
 use Rattle.guarantee.specs.KeepsSound.{ahead-waits, ahead-earlier}
 use Rattle.guarantee.specs.Exact.{row-room}
 
 module _ (s : Session) (f : Facts s) (tight : s .kind ≡ 2) (h : headOf s < s .count) where
   -- its budget is spent
   spent : jobAt s (headOf s) .budget ≡ 0
-  unfolding startBudget startBy
-  spent = omega (arith, simp tight at (f .job (headOf s) h (head-waits s h) .budget))
+  spent = omega (arith, f .job (headOf s) h (head-waits s h) .budget, most-tight (tasks s) (s .kind) tight (headOf s))
 
   -- no job loses budget while the head runs
   none-ahead : (j : ℕ) → j < s .count → ahead s (headOf s) j ≡ false

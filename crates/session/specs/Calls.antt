@@ -1,7 +1,7 @@
 -- The four calls (docs/SPECIFICATION.md §5.3 to §5.7). Assumes nothing.
-use Prim.Native.Nat.{ℕ, _+_, _-_}
+use Prim.Native.Nat.{ℕ, _+_, _-_, min}
 use mathlib.Core.Path.{_≡_}
-use mathlib.Core.Bool.{_||_, cond}
+use mathlib.Core.Bool.{Bool, _&&_, _||_, cond}
 use mathlib.Core.List.{List}
 use lib.Dec.{leb, ltb, eqb}
 use lib.ListN.{set}
@@ -13,7 +13,7 @@ use Rattle.session.specs.declared.Numbers.{Numbers}
 use Rattle.session.specs.declared.Answer.{Answer}
 use Rattle.session.specs.declared.Answer.the-variants.{Arrived, Chosen, Advanced, Finished, Unsound, NoRow, TooEarly, InForce, NoChoice, BadStep, Idling, ClockEnd}
 use Rattle.session.specs.declared.Outcome.{Outcome}
-use Rattle.session.specs.Reading.{idle, clockEnd, jobAt, tasks, ahead, startBudget}
+use Rattle.session.specs.Reading.{idle, clockEnd, jobAt, tasks, waits, ahead, startBudget}
 use Rattle.session.specs.Sound.{sound}
 use Rattle.session.specs.Choose.{pickOf, pickUsed, spanOf, usedOf}
 
@@ -65,6 +65,17 @@ changed s clock jobs c n = record {
   span = n;
 }
 
+-- a session's jobs, of which those of the rows below k are as f says
+unfoldable pub jobsWith : Session → (ℕ → Job) → ℕ → List Job
+jobsWith s f k = foldTo (λ l i. set l i (f i)) (s .jobs) k
+
+-- a job that is over leaves the row's earliest next arrival
+abbrev pub overJob : Job → Job
+overJob j = record { next = j .next; due = 0; left = 0; budget = 0 }
+
+abbrev pub withBudget : Job → ℕ → Job
+withBudget j b = record { next = j .next; due = j .due; left = j .left; budget = b }
+
 -- ---- arrive
 
 -- earliest next arrival clock + T; the job waits with deadline clock + D, remaining C, and the starting budget
@@ -94,23 +105,14 @@ chooseIn s l =
 
 -- ---- advance
 
--- a job that is over leaves the row's earliest next arrival
-abbrev pub overJob : Session → ℕ → Job
-overJob s i = record { next = jobAt s i .next; due = 0; left = 0; budget = 0 }
-
 -- row i after n ticks of the choice in force: the chosen job's remaining falls by n, and at 0 it is over; each waiting
 -- job of strictly earlier deadline (all, under idle) loses n of budget
 unfoldable pub agedJob : Session → ℕ → ℕ → Job
 agedJob s n i =
     cond (eqb i (s .chosen))
-    (cond (eqb (jobAt s i .left) n) (overJob s i)
+    (cond (eqb (jobAt s i .left) n) (overJob (jobAt s i))
     record { next = jobAt s i .next; due = jobAt s i .due; left = jobAt s i .left - n; budget = jobAt s i .budget })
-    (cond (ahead s (s .chosen) i)
-    record { next = jobAt s i .next; due = jobAt s i .due; left = jobAt s i .left; budget = jobAt s i .budget - n }
-    (jobAt s i))
-
-unfoldable pub agedJobs : Session → ℕ → ℕ → List Job
-agedJobs s n k = foldTo (λ l i. set l i (agedJob s n i)) (s .jobs) k
+    (cond (ahead s (s .chosen) i) (withBudget (jobAt s i) (jobAt s i .budget - n)) (jobAt s i))
 
 -- 1 if c is a row and its job, with so many ticks remaining, is over after n of them
 unfoldable pub overBy : ℕ → ℕ → ℕ → ℕ
@@ -124,7 +126,7 @@ overAfter s n = overBy (s .chosen) (jobAt s (s .chosen) .left) n
 abbrev pub steppedOf : Session → ℕ → Outcome
 steppedOf s n =
     accepted
-    (changed s (s .clock + n) (agedJobs s n (s .count)) (cond (eqb (s .span) n) 0 (s .chosen)) (s .span - n))
+    (changed s (s .clock + n) (jobsWith s (agedJob s n) (s .count)) (cond (eqb (s .span) n) 0 (s .chosen)) (s .span - n))
     (Advanced (s .span - n) (overAfter s n))
 
 unfoldable pub advanceIn : Session → ℕ → Outcome
@@ -135,13 +137,26 @@ advanceIn s n =
 
 -- ---- finish
 
--- the chosen job is over early and the choice ends; its remaining ticks are reported as unused
+-- the ticks that the chosen job leaves unused
+abbrev pub unusedOf : Session → ℕ
+unusedOf s = jobAt s (s .chosen) .left
+
+-- the jobs that gain these ticks: in a loose session, each waiting job of strictly later deadline
+unfoldable pub gains : Session → ℕ → Bool
+gains s i = eqb (s .kind) 1 && (waits s i && ltb (jobAt s (s .chosen) .due) (jobAt s i .due))
+
+-- row i after the chosen job is over: a job that gains has the unused ticks as budget besides its own, never above its D − C
+unfoldable pub givenJob : Session → ℕ → Job
+givenJob s i =
+    cond (eqb i (s .chosen)) (overJob (jobAt s i))
+    (cond (gains s i) (withBudget (jobAt s i) (min (jobAt s i .budget + unusedOf s) (tasks s .D i - tasks s .C i))) (jobAt s i))
+
+-- the chosen job is over early and the choice ends; the unused ticks are reported
+abbrev pub finishedOf : Session → Outcome
+finishedOf s = accepted (changed s (s .clock) (jobsWith s (givenJob s) (s .count)) 0 0) (Finished (s .chosen) (unusedOf s))
+
 unfoldable pub finishIn : Session → Outcome
-finishIn s =
-    cond (eqb (s .span) 0) (refused s NoChoice)
-    (cond (eqb (s .chosen) idle) (refused s Idling)
-    (accepted (changed s (s .clock) (set (s .jobs) (s .chosen) (overJob s (s .chosen))) 0 0)
-    (Finished (s .chosen) (jobAt s (s .chosen) .left))))
+finishIn s = cond (eqb (s .span) 0) (refused s NoChoice) (cond (eqb (s .chosen) idle) (refused s Idling) (finishedOf s))
 
 -- ---- any session: one that is not sound is refused before all else
 

@@ -14,7 +14,7 @@ use Rattle.table.specs.Rows.{horizon, tasksOf, Fit}
 use Rattle.table.specs.Verdict.{answerOf}
 use Rattle.table.specs.Theorems.{answer-fit}
 use Rattle.session.specs.declared.Session.{Session}
-use Rattle.session.specs.Reading.{idle, clockEnd, jobAt, rowsOf, tasks, waits, ahead, startBudget}
+use Rattle.session.specs.Reading.{idle, clockEnd, jobAt, rowsOf, tasks, waits, ahead, mostBudget}
 use Rattle.session.specs.Sound.{soundRows, soundWaiting, soundJob, runs, affords, soundChoice, sound}
 
 -- the job of row i, where one waits
@@ -23,7 +23,7 @@ pub record Waiting (s : Session) (i : ℕ) : Type 0 where
   pub most : jobAt s i .left ≤ tasks s .C i
   pub deadline : jobAt s i .due + tasks s .T i ≡ jobAt s i .next + tasks s .D i
   pub notLate : s .clock < jobAt s i .due
-  pub budget : jobAt s i .budget ≤ startBudget (s .kind) (tasks s) i
+  pub budget : jobAt s i .budget ≤ mostBudget (s .kind) (tasks s) i
 
 -- the chosen row, where idle is not chosen
 pub record Running (s : Session) : Type 0 where

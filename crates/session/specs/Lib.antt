@@ -6,6 +6,7 @@ pub mod First
 pub mod Alone
 pub mod Choose
 pub mod Calls
+pub mod Jobs
 pub mod Admit
 pub mod Facts
 pub mod Ahead

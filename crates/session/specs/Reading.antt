@@ -1,5 +1,5 @@
 -- What a session's record says (docs/SPECIFICATION.md §5.1). Assumes nothing.
-use Prim.Native.Nat.{ℕ, _*_}
+use Prim.Native.Nat.{ℕ, _-_, _*_}
 use mathlib.Core.Bool.{Bool, _&&_, _||_, cond}
 use mathlib.Core.List.{List}
 use lib.Dec.{ltb, eqb}
@@ -52,6 +52,10 @@ startBy kind v = cond (eqb kind 1) (natural v) 0
 
 unfoldable pub startBudget : ℕ → TaskSet → ℕ → ℕ
 startBudget kind τ i = startBy kind (budgetOf τ i)
+
+-- the most budget that a waiting job may have: D − C in a loose session, 0 in a tight one
+unfoldable pub mostBudget : ℕ → TaskSet → ℕ → ℕ
+mostBudget kind τ i = cond (eqb kind 1) (τ .D i - τ .C i) 0
 
 -- the session as the theory sees it
 abbrev pub stateOf : Session → State

@@ -6,18 +6,18 @@ use Rattle.bounded.specs.All.{allTo}
 use Rattle.table.specs.Rows.{horizon}
 use Rattle.table.specs.Verdict.{answerOf}
 use Rattle.session.specs.declared.Session.{Session}
-use Rattle.session.specs.Reading.{idle, clockEnd, jobAt, rowsOf, tasks, waits, ahead, startBudget}
+use Rattle.session.specs.Reading.{idle, clockEnd, jobAt, rowsOf, tasks, waits, ahead, mostBudget}
 
 -- its rows, 16 at most, would be admitted as the kind it names
 unfoldable pub soundRows : Session → Bool
 soundRows s = leb (s .count) 16 && (eqb (answerOf (rowsOf s) 0 .number) 0 && eqb (answerOf (rowsOf s) 0 .first) (s .kind))
 
--- a waiting job: remaining ≤ C, deadline = earliest next arrival − T + D, clock < deadline, budget ≤ V (0 when tight)
+-- a waiting job: remaining ≤ C, deadline = earliest next arrival − T + D, clock < deadline, budget ≤ D − C (0 when tight)
 unfoldable pub soundWaiting : Session → ℕ → Bool
 soundWaiting s i =
     leb (jobAt s i .left) (tasks s .C i)
     && (eqb (jobAt s i .due + tasks s .T i) (jobAt s i .next + tasks s .D i)
-    && (ltb (s .clock) (jobAt s i .due) && leb (jobAt s i .budget) (startBudget (s .kind) (tasks s) i)))
+    && (ltb (s .clock) (jobAt s i .due) && leb (jobAt s i .budget) (mostBudget (s .kind) (tasks s) i)))
 
 -- each row: earliest next arrival ≤ clock + T, and its job, if one waits, as above
 unfoldable pub soundJob : Session → ℕ → Bool

@@ -1,60 +1,55 @@
 -- The code that decides soundness, row by row (docs/SPECIFICATION.md §5.2). Assumes nothing.
-use Prim.Native.Nat.{ℕ, _+_, _*_, _≤_, _<_}
-use mathlib.Core.Path.{_≡_, refl, sym, ap, _∙_}
-use mathlib.Core.Bool.{Bool, true, false, not, _&&_, _||_, true≢false, false≢true}
-use mathlib.Core.List.{List}
+use Prim.Native.Nat.{ℕ, _+_, _-_, _*_, _≤_, _<_}
+use mathlib.Core.Path.{_≡_, sym, ap, _∙_}
+use mathlib.Core.Bool.{Bool, true, false, not, _&&_, _||_, cond}
 use native.Mathlib.Omega.{arith}
 use lib.Dec.{leb, ltb, eqb}
-use lib.IntN.{ℤ, pos, negsuc, natAbs}
-use lib.ListN.{getD, length}
+use lib.ListN.{length}
 use lib.Seq.{length-take-le}
 use borrow.Author.Tests.{lt-ltb, le-ltb, le-leb, lt-leb, eq-eqb, ne-eqb}
 use Rattle.bounded.specs.All.{allTo}
-use Rattle.bounded.specs.Signed.{negative}
 use Rattle.edf.specs.Demand.{TaskSet}
 use Rattle.table.specs.declared.rows.Task.{Task}
-use Rattle.table.specs.declared.kind.Kind.{Kind}
 use Rattle.table.specs.Rows.{horizon, tasksOf, FitRow, Fit}
-use Rattle.table.specs.Budgets.{valuesOf, values-at}
 use Rattle.table.specs.Verdict.{answerOf, kindOf}
-use Rattle.table.specs.Kind.{Kinded, kind-none, kind-some}
-use Rattle.table.specs.Theorems.{answer-fit, answer-admitted}
+use Rattle.table.specs.Kind.{kind-none, kind-some}
+use Rattle.table.specs.Theorems.{answer-fit}
 use Rattle.session.specs.declared.Job.{Job}
 use Rattle.session.specs.declared.Session.{Session}
-use Rattle.session.specs.Reading.{idle, clockEnd, jobAt, rowsOf, tasks, waits, natural, startBy, startBudget}
+use Rattle.session.specs.Reading.{idle, clockEnd, jobAt, rowsOf, tasks, waits, mostBudget}
 use Rattle.session.specs.Sound.{soundRows, soundWaiting, soundJob, runs, affords, soundChoice, sound}
 use Rattle.session.specs.Ahead.{aheadBy, DueOf, ahead-is}
 
--- a row's job j, with its task k, the clock and its starting budget
+-- a row's job j, with its task k, the clock and the most budget that it may have
 unfoldable pub soundBy : Job → Task → ℕ → ℕ → Bool
-soundBy j k clock start =
+soundBy j k clock most =
     leb (j .next) (clock + k .period)
     && (not (ltb 0 (j .left))
     || (leb (j .left) (k .run)
-    && (eqb (j .due + k .period) (j .next + k .deadline) && (ltb clock (j .due) && leb (j .budget) start))))
+    && (eqb (j .due + k .period) (j .next + k .deadline) && (ltb clock (j .due) && leb (j .budget) most))))
 
 pub record Small (k : Task) (at : ℕ) : Type 0 where
   pub clock : at ≤ clockEnd
   pub period : k .period ≤ horizon
   pub deadline : k .deadline ≤ horizon
 
-module _ (j : Job) (k : Task) (clock start : ℕ) (m : Small k clock) where
-  pub job-next : clock + k .period < j .next → false ≡ soundBy j k clock start
+module _ (j : Job) (k : Task) (clock most : ℕ) (m : Small k clock) where
+  pub job-next : clock + k .period < j .next → false ≡ soundBy j k clock most
   unfolding soundBy
   job-next a = simp (lt-leb (j .next) (clock + k .period) a)
 
   module _ (a : j .next ≤ clock + k .period) where
-    pub job-none : j .left < 1 → true ≡ soundBy j k clock start
+    pub job-none : j .left < 1 → true ≡ soundBy j k clock most
     unfolding soundBy
     job-none b = simp (le-leb (j .next) (clock + k .period) a, le-ltb 0 (j .left) (omega arith))
 
     module _ (b : 1 ≤ j .left) where
-      pub job-left : k .run < j .left → false ≡ soundBy j k clock start
+      pub job-left : k .run < j .left → false ≡ soundBy j k clock most
       unfolding soundBy
       job-left c = simp (le-leb (j .next) (clock + k .period) a, lt-ltb 0 (j .left) (omega arith), lt-leb (j .left) (k .run) c)
 
       module _ (c : j .left ≤ k .run) where
-        job-due : (j .due + k .period ≡ j .next + k .deadline → ⊥) → false ≡ soundBy j k clock start
+        job-due : (j .due + k .period ≡ j .next + k .deadline → ⊥) → false ≡ soundBy j k clock most
         unfolding soundBy
         job-due ne =
             simp (
@@ -65,14 +60,14 @@ module _ (j : Job) (k : Task) (clock start : ℕ) (m : Small k clock) where
             )
 
         -- a deadline past every clock's reach
-        pub job-far : 18014398509481984 < j .due → false ≡ soundBy j k clock start
+        pub job-far : 18014398509481984 < j .due → false ≡ soundBy j k clock most
         job-far d = let p = m .clock in let q = m .deadline in job-due (λ e. omega arith)
 
-        pub job-other : j .due ≤ 18014398509481984 → (j .due + k .period ≡ j .next + k .deadline → ⊥) → false ≡ soundBy j k clock start
+        pub job-other : j .due ≤ 18014398509481984 → (j .due + k .period ≡ j .next + k .deadline → ⊥) → false ≡ soundBy j k clock most
         job-other d ne = job-due ne
 
         module _ (e : j .due + k .period ≡ j .next + k .deadline) where
-          pub job-late : j .due ≤ clock → false ≡ soundBy j k clock start
+          pub job-late : j .due ≤ clock → false ≡ soundBy j k clock most
           unfolding soundBy
           job-late f =
               simp (
@@ -83,7 +78,7 @@ module _ (j : Job) (k : Task) (clock start : ℕ) (m : Small k clock) where
                 le-ltb clock (j .due) f,
               )
 
-          pub job-rest : clock < j .due → leb (j .budget) start ≡ soundBy j k clock start
+          pub job-rest : clock < j .due → leb (j .budget) most ≡ soundBy j k clock most
           unfolding soundBy
           job-rest f =
               simp (
@@ -96,47 +91,39 @@ module _ (j : Job) (k : Task) (clock start : ℕ) (m : Small k clock) where
 
 pub ruleset job-cases = (job-next, job-none, job-left, job-far, job-other, job-late, job-rest)
 
--- the same of row i of τ, from its V
-unfoldable pub soundIn : TaskSet → ℕ → Job → ℕ → ℤ → ℕ → Bool
-soundIn τ i j kind v clock =
+-- the most budget of a job of task k
+unfoldable pub mostBy : ℕ → Task → ℕ
+mostBy kind k = cond (eqb kind 1) (k .deadline - k .run) 0
+
+module _ (kind : ℕ) (k : Task) where
+  pub most-loose : kind ≡ 1 → k .deadline - k .run ≡ mostBy kind k
+  unfolding mostBy
+  most-loose e = simp (eq-eqb kind 1 e)
+
+  pub most-tight : (kind ≡ 1 → ⊥) → 0 ≡ mostBy kind k
+  unfolding mostBy
+  most-tight ne = simp (ne-eqb kind 1 ne)
+
+pub ruleset most-cases = (most-loose, most-tight)
+
+-- the same of row i of τ, and the session's kind
+unfoldable pub soundIn : TaskSet → ℕ → Job → ℕ → ℕ → Bool
+soundIn τ i j kind clock =
     leb (j .next) (clock + τ .T i)
     && (not (ltb 0 (j .left))
     || (leb (j .left) (τ .C i)
-    && (eqb (j .due + τ .T i) (j .next + τ .D i) && (ltb clock (j .due) && leb (j .budget) (startBy kind v)))))
+    && (eqb (j .due + τ .T i) (j .next + τ .D i) && (ltb clock (j .due) && leb (j .budget) (mostBudget kind τ i)))))
 
--- w is what the machine reads back of v
-pub row-is : (τ : TaskSet) (i start kind clock : ℕ) (j : Job) (k : Task) (v w : ℤ) (b : Bool) → FitRow τ i k → w ≡ v → start ≡ startBy kind w → b ≡ soundBy j k clock start → b ≡ soundIn τ i j kind v clock
-unfolding soundBy soundIn
-row-is τ i start kind clock j k v w b f e g h = let r = f .row in h ∙ rw (r .run, r .period, r .deadline, g, e)
+pub row-is : (τ : TaskSet) (i most kind clock : ℕ) (j : Job) (k : Task) (b : Bool) → FitRow τ i k → most ≡ mostBy kind k
+    → b ≡ soundBy j k clock most → b ≡ soundIn τ i j kind clock
+unfolding soundBy soundIn mostBy mostBudget
+row-is τ i most kind clock j k b f g h = let r = f .row in h ∙ rw (g, r .run, r .period, r .deadline)
 
 pub row-small : (τ : TaskSet) (i clock : ℕ) (k : Task) → clock ≤ clockEnd → FitRow τ i k → Small k clock
 row-small τ i clock k h f =
     let r = f .row in
     let u = f .rule in
     record { clock = h; period = omega arith; deadline = omega arith }
-
--- ---- the starting budget
-
-pub start-tight : (kind : ℕ) (v : ℤ) → (kind ≡ 1 → ⊥) → 0 ≡ startBy kind v
-unfolding startBy
-start-tight kind v ne = simp (ne-eqb kind 1 ne)
-
-natural-none : (v : ℤ) → negative v ≡ true → 0 ≡ natural v
-natural-none (pos n) e = absurd (false≢true e)
-natural-none (negsuc n) e = refl
-
-natural-some : (v : ℤ) → negative v ≡ false → natAbs v ≡ natural v
-natural-some (pos n) e = refl
-natural-some (negsuc n) e = absurd (true≢false e)
-
--- w is what the machine reads back of v
-pub start-none : (kind : ℕ) (v w : ℤ) (b : Bool) → kind ≡ 1 → w ≡ v → b ≡ negative w → b ≡ true → 0 ≡ startBy kind v
-unfolding startBy
-start-none kind v w b e r h t = simp (eq-eqb kind 1 e) (natural-none v (ap negative (sym r) ∙ sym h ∙ t))
-
-pub start-some : (kind x : ℕ) (v w : ℤ) (b : Bool) → kind ≡ 1 → w ≡ v → b ≡ negative w → b ≡ false → x ≡ natAbs w → x ≡ startBy kind v
-unfolding startBy
-start-some kind x v w b e r h f g = simp (eq-eqb kind 1 e) (g ∙ ap natAbs r ∙ natural-some v (ap negative (sym r) ∙ sym h ∙ f))
 
 -- ---- the choice
 
@@ -220,26 +207,20 @@ module _ (s : Session) where
 
 pub ruleset choice-cases = (choice-none, choice-long, choice-idle, choice-unknown, choice-over, choice-short, choice-row)
 
--- v is the rows' V, in their places
-pub record Valued (s : Session) (v : List ℤ) : Type 0 where
+-- what the check has found of the rows and the clock
+pub record Checked (s : Session) : Type 0 where
   pub few : s .count ≤ 16
   pub places : length (s .words) ≡ 48
   pub clock : s .clock ≤ clockEnd
   pub rows : tasks s .rows ≡ s .count
   pub fit : Fit (tasks s)
-  pub values : v ≡ valuesOf (tasks s)
 
-pub valued-fit : (s : Session) (v : List ℤ) (i : ℕ) → Valued s v → i < s .count → Fit (tasks s) × (i < tasks s .rows)
-valued-fit s v i h l = (h .fit, omega (arith, h .rows))
+pub checked-fit : (s : Session) (i : ℕ) → Checked s → i < s .count → Fit (tasks s) × (i < tasks s .rows)
+checked-fit s i h l = (h .fit, omega (arith, h .rows))
 
--- w is what the machine reads back of the V of row i
-pub job-turn : (s : Session) (v : List ℤ) (i : ℕ) (w : ℤ) (b : Bool)
-    → Valued s v → i < s .count → w ≡ getD v i (pos 0) → b ≡ soundIn (tasks s) i (jobAt s i) (s .kind) w (s .clock) → b ≡ soundJob s i
-unfolding soundIn soundJob soundWaiting waits startBudget
-job-turn s v i w b h l r e =
-    e
-    ∙ ap (λ (z : ℤ). soundIn (tasks s) i (jobAt s i) (s .kind) z (s .clock))
-    (r ∙ ap (λ (x : List ℤ). getD x i (pos 0)) (h .values) ∙ values-at (tasks s) i (h .fit) (omega (arith, h .rows)))
+pub job-turn : (s : Session) (i : ℕ) (b : Bool) → b ≡ soundIn (tasks s) i (jobAt s i) (s .kind) (s .clock) → b ≡ soundJob s i
+unfolding soundIn soundJob soundWaiting waits
+job-turn s i b e = e
 
 -- ---- the whole test
 
@@ -251,26 +232,22 @@ pub sound-many : (s : Session) → 16 < s .count → false ≡ sound s
 unfolding sound soundRows
 sound-many s h = simp (lt-leb (s .count) 16 h)
 
-module _ (s : Session) (few : s .count ≤ 16) (k : Kind) (h : Kinded (rowsOf s) k) where
-  kind-is : k .number ≡ kindOf (rowsOf s)
-  unfolding kindOf
-  kind-is = h .number
-
-  pub sound-refused : k .number ≡ 0 → false ≡ sound s
+module _ (s : Session) (few : s .count ≤ 16) (k : ℕ) (h : k ≡ kindOf (rowsOf s)) where
+  pub sound-refused : k ≡ 0 → false ≡ sound s
   unfolding sound soundRows
   sound-refused z =
       simp (
         le-leb (s .count) 16 few,
-        ne-eqb (answerOf (rowsOf s) 0 .number) 0 (kind-none (rowsOf s) (sym kind-is ∙ z)),
+        ne-eqb (answerOf (rowsOf s) 0 .number) 0 (kind-none (rowsOf s) (sym h ∙ z)),
       )
 
-  module _ (ne : k .number ≡ 0 → ⊥) where
-    answer-is : (answerOf (rowsOf s) 0 .number ≡ 0) × (answerOf (rowsOf s) 0 .first ≡ k .number)
+  module _ (ne : k ≡ 0 → ⊥) where
+    answer-is : (answerOf (rowsOf s) 0 .number ≡ 0) × (answerOf (rowsOf s) 0 .first ≡ k)
     answer-is =
-        let a = kind-some (rowsOf s) (λ z. ne (kind-is ∙ z)) in
-        (a .0, a .1 ∙ sym kind-is)
+        let a = kind-some (rowsOf s) (λ z. ne (h ∙ z)) in
+        (a .0, a .1 ∙ sym h)
 
-    pub sound-kind : (k .number ≡ s .kind → ⊥) → false ≡ sound s
+    pub sound-kind : (k ≡ s .kind → ⊥) → false ≡ sound s
     unfolding sound soundRows
     sound-kind other =
         simp (
@@ -279,7 +256,7 @@ module _ (s : Session) (few : s .count ≤ 16) (k : Kind) (h : Kinded (rowsOf s)
           ne-eqb (answerOf (rowsOf s) 0 .first) (s .kind) (λ e. other (sym (answer-is .1) ∙ e)),
         )
 
-    module _ (same : k .number ≡ s .kind) where
+    module _ (same : k ≡ s .kind) where
       rows-sound : soundRows s ≡ true
       unfolding soundRows
       rows-sound =
@@ -294,15 +271,9 @@ module _ (s : Session) (few : s .count ≤ 16) (k : Kind) (h : Kinded (rowsOf s)
       sound-clock c = simp (rows-sound, lt-leb (s .clock) clockEnd c)
 
       module _ (c : s .clock ≤ clockEnd) where
-        pub sound-valued : length (s .words) ≡ 48 → Valued s (k .budgets)
-        sound-valued p = record {
-          few = few;
-          places = p;
-          clock = c;
-          rows = rows-count s few p;
-          fit = answer-fit (rowsOf s) 0 (answer-is .0);
-          values = h .budgets ∙ answer-admitted (rowsOf s) 0 0 (answer-is .0) .1;
-        }
+        pub sound-checked : length (s .words) ≡ 48 → Checked s
+        sound-checked p =
+            record { few = few; places = p; clock = c; rows = rows-count s few p; fit = answer-fit (rowsOf s) 0 (answer-is .0) }
 
         pub sound-jobs : (b : Bool) → b ≡ allTo (soundJob s) (s .count) → b ≡ false → false ≡ sound s
         unfolding sound

@@ -4,10 +4,10 @@ ghost use mathlib.Core.Bool.{true};
 ghost use Prim.Native.Nat.{_≤_, _<_};
 ghost use Rattle.table.specs.Rows.{tasksOf, Fit};
 ghost use Rattle.bounded.specs.All.{allTo};
-ghost use Rattle.session.specs.Reading.{clockEnd, startBy};
+ghost use Rattle.session.specs.Reading.{clockEnd};
 ghost use Rattle.session.specs.Sound.{affords, soundJob, soundChoice, sound};
 ghost use Rattle.session.specs.Ahead.{aheadBy, DueOf};
-ghost use Rattle.session.specs.Soundness.{Small, soundBy, soundIn, affordsBy, Valued};
+ghost use Rattle.session.specs.Soundness.{Small, mostBy, soundBy, soundIn, affordsBy, Checked};
 use super::Job;
 use super::Session;
 use table::rows::Task;
@@ -83,23 +83,21 @@ fn choice_sound(s: Session) -> bool
     covered(s, c, k.due, span)
 }
 
-// A row's starting budget: V in a loose session, 0 in a tight one.
-pub fn start_budget(kind: u64, v: i64) -> u64
-    ensures { λ r. ⌜ r ≡ startBy kind v ⌝ }
+// The most budget that a waiting job may have: D − C in a loose session, 0 in a tight one.
+fn most_budget(kind: u64, k: Task) -> u64
+    requires { ⌜ k .run ≤ k .deadline ⌝ }
+    ensures { λ r. ⌜ r ≡ mostBy kind k ⌝ }
 {
     if kind == 1 {
-        if table::budgets::below_zero(v) {
-            return 0;
-        }
-        return table::budgets::magnitude(v);
+        return k.deadline - k.run;
     }
     0
 }
 
-// A row's job, with its task, the clock and its starting budget.
-fn job_sound(j: Job, k: Task, clock: u64, start: u64) -> bool
+// A row's job, with its task, the clock and the most budget that it may have.
+fn job_sound(j: Job, k: Task, clock: u64, most: u64) -> bool
     requires { ⌜ Small k clock ⌝ }
-    ensures { λ r. ⌜ r ≡ soundBy j k clock start ⌝ }
+    ensures { λ r. ⌜ r ≡ soundBy j k clock most ⌝ }
 {
     if clock + k.period < j.next {
         return false;
@@ -120,21 +118,21 @@ fn job_sound(j: Job, k: Task, clock: u64, start: u64) -> bool
     if j.due <= clock {
         return false;
     }
-    j.budget <= start
+    j.budget <= most
 }
 
-// Row i of a table, with its job, the session's kind, its V and the clock.
-fn row_sound(rows: &[u32], i: usize, j: Job, kind: u64, v: i64, clock: u64) -> bool
+// Row i of a table, with its job, the session's kind and the clock.
+fn row_sound(rows: &[u32], i: usize, j: Job, kind: u64, clock: u64) -> bool
     requires { ⌜ Fit (tasksOf (now rows)) × (i < tasksOf (now rows) .rows) × (clock ≤ clockEnd) ⌝ }
-    ensures { λ r. ⌜ r ≡ soundIn (tasksOf (now (rows .entry))) i j kind v clock ⌝ }
+    ensures { λ r. ⌜ r ≡ soundIn (tasksOf (now (rows .entry))) i j kind clock ⌝ }
 {
     let k = table::rows::fit_row(rows, i);
-    let start = start_budget(kind, v);
-    job_sound(j, k, clock, start)
+    let most = most_budget(kind, k);
+    job_sound(j, k, clock, most)
 }
 
-fn jobs_sound(s: Session, values: [i64; 16]) -> bool
-    requires { ⌜ Valued s values ⌝ }
+fn jobs_sound(s: Session) -> bool
+    requires { ⌜ Checked s ⌝ }
     ensures { λ r. ⌜ r ≡ allTo (soundJob s) (s .count) ⌝ }
 {
     let n = s.count as usize;
@@ -145,7 +143,7 @@ fn jobs_sound(s: Session, values: [i64; 16]) -> bool
     let rows = &words[..e];
     let mut i: usize = 0;
     while i < n {
-        if row_sound(rows, i, s.jobs[i], kind, values[i], clock) {
+        if row_sound(rows, i, s.jobs[i], kind, clock) {
             i = i + 1;
         } else {
             return false;
@@ -165,17 +163,16 @@ pub fn is_sound(s: Session) -> bool
     let words = s.words;
     let e = 3 * (count as usize);
     let k = table::kind::kind_of(&words[..e]);
-    if k.number == 0 {
+    if k == 0 {
         return false;
     }
-    if k.number != s.kind {
+    if k != s.kind {
         return false;
     }
     if Session::CLOCK_END < s.clock {
         return false;
     }
-    let values = k.budgets;
-    if jobs_sound(s, values) {
+    if jobs_sound(s) {
         return choice_sound(s);
     }
     false

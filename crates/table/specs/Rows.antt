@@ -111,6 +111,9 @@ pub record Fit (τ : TaskSet) : Type 0 where
 pub fit-row : (τ : TaskSet) (i : ℕ) (k : Task) → Fit τ → i < τ .rows → Row τ i k → FitRow τ i k
 fit-row τ i k fit l r = record { row = r; rule = fit .row i l }
 
+pub run-fits : (τ : TaskSet) (i : ℕ) (k : Task) → FitRow τ i k → k .run ≤ k .deadline
+run-fits τ i k f = let r = f .row in let u = f .rule in omega arith
+
 -- a row that is not broken keeps its rule
 pub rule-of : (τ : TaskSet) (i : ℕ) → broken τ i ≡ false → Rule τ i
 unfolding broken rowRule

@@ -58,9 +58,12 @@ answerOf l t =
     cond (badLength (length l)) (refusal 1 (length l) 0)
     (cond (ltb (firstBroken (tasksOf l)) (tasksOf l .rows)) (refusal 2 (firstBroken (tasksOf l)) 0) (opinionOf (tasksOf l) t))
 
--- the kind that a slice is admitted as, 1 loose and 2 tight; 0 where it is refused
+-- the kind that an answer admits a table as, 1 loose and 2 tight; 0 where it is a refusal
+abbrev pub kindIn : Answer → ℕ
+kindIn a = cond (eqb (a .number) 0) (a .first) 0
+
 unfoldable pub kindOf : List ℕ → ℕ
-kindOf l = cond (eqb (answerOf l 0 .number) 0) (answerOf l 0 .first) 0
+kindOf l = kindIn (answerOf l 0)
 
 -- what is asked of the t that a refusal 3 names: it lies in the compared range, and its demand is above it
 pub record Exceeded (τ : TaskSet) (t : ℕ) : Type 0 where

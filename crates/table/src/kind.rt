@@ -1,9 +1,8 @@
-// What a session's check asks of a table: the kind that it is admitted as, and V of each row (docs/SPECIFICATION.md §5.2).
-// It needs no busy length, nor which refusal it is, and so takes less than `assess`.
+// What a session's check asks of a table: the kind that it is admitted as (docs/SPECIFICATION.md §5.2). It needs no busy
+// length, nor which refusal it is, and so takes less than `assess`.
 ghost use mathlib.Core.Path.{_≡_};
 ghost use Rattle.table.specs.Rows.{tasksOf, Fit};
-ghost use Rattle.table.specs.Verdict.{opinionOf};
-ghost use Rattle.table.specs.Kind.{KindOf, Kinded, unfitKind};
+ghost use Rattle.table.specs.Verdict.{opinionOf, kindIn, kindOf};
 use super::budgets::all_budgets;
 use super::ill_sized;
 use super::inverse::inverses_of;
@@ -12,60 +11,38 @@ use super::rows::count;
 use super::rows::first_broken;
 use super::settle::settling;
 
-// 1 loose, 2 tight, 0 refused; V of each row: 0 past the last row, and in all places where the table is refused.
-pub struct Kind {
-    pub number: u64,
-    pub budgets: [i64; 16],
-}
-
-fn unfit() -> Kind
-    ensures { λ r. ⌜ r ≡ unfitKind ⌝ }
-{
-    Kind {
-        number: 0,
-        budgets: [0i64; 16],
-    }
-}
-
-// The kind of rows that keep their rule.
-fn fit_kind(words: &[u32]) -> Kind
+// The kind of rows that keep their rule: 1 loose, 2 tight, 0 refused.
+fn fit_kind(words: &[u32]) -> u64
     requires { ⌜ Fit (tasksOf (now words)) ⌝ }
-    ensures { λ r. ⌜ KindOf (opinionOf (tasksOf (now (words .entry))) 0) r ⌝ }
+    ensures { λ r. ⌜ r ≡ kindIn (opinionOf (tasksOf (now (words .entry))) 0) ⌝ }
 {
     let inverses = inverses_of(words);
     let b = all_budgets(words, &inverses);
-    let values = b.values;
     if b.loose {
-        return Kind {
-            number: 1,
-            budgets: values,
-        };
+        return 1;
     }
     let end = settling(words, &inverses);
     if 1000000 < end {
-        return unfit();
+        return 0;
     }
     let found = search(words, &inverses, end);
     if found.at != 0 {
-        return unfit();
+        return 0;
     }
-    Kind {
-        number: 2,
-        budgets: values,
-    }
+    2
 }
 
 // The kind of any slice.
-pub fn kind_of(words: &[u32]) -> Kind
-    ensures { λ r. ⌜ Kinded (now (words .entry)) r ⌝ }
+pub fn kind_of(words: &[u32]) -> u64
+    ensures { λ r. ⌜ r ≡ kindOf (now (words .entry)) ⌝ }
 {
     let n = words.len();
     if ill_sized(n) {
-        return unfit();
+        return 0;
     }
     let i = first_broken(words);
     if i < count(words) {
-        return unfit();
+        return 0;
     }
     fit_kind(words)
 }

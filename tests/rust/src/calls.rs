@@ -1,7 +1,7 @@
 //! The four calls: arrive, choose, advance, finish.
 
 use crate::session::{Choice, Job, Session, Slot, CLOCK_END, IDLE};
-use crate::table::HORIZON;
+use crate::table::{Kind, HORIZON};
 
 /// A call with its arguments.
 #[derive(Clone, Copy, Debug, PartialEq, Eq)]
@@ -69,7 +69,7 @@ fn arrive(session: &mut Session, row: u32) -> Answer {
         job: Some(Job {
             due,
             left: u64::from(task.run),
-            budget: session.full_budget(index),
+            budget: session.arrival_budget(index),
         }),
     };
     session.choice = None;
@@ -111,7 +111,7 @@ pub fn pick(session: &Session, candidates: &[u32], words: &[u32]) -> (Choice, us
     let row = first_word.map_or(candidates[0], |word| {
         candidates[*word as usize % candidates.len()]
     });
-    // Idle has no remaining ticks; no budget exceeds the horizon.
+    // Idle has no remaining ticks; every budget, at most D − C, is below the horizon.
     let remaining = session.job(row).map_or(HORIZON, |job| job.left);
     let (left, words_used) = match session.earlier(row).map(|job| job.budget as u64).min() {
         None => (remaining, usize::from(first_word.is_some())),
@@ -172,8 +172,24 @@ fn finish(session: &mut Session) -> Answer {
     let Some(job) = session.job(choice.row) else {
         return Answer::refused(11, 0, 0);
     };
-    let unused = job.left;
+    let (due, unused) = (job.due, job.left);
     session.slots[choice.row as usize].job = None;
     session.choice = None;
+    if session.kind == Kind::Loose {
+        give(session, due, unused);
+    }
     Answer::accepted(u64::from(choice.row), unused)
+}
+
+/// Each waiting job of strictly later deadline gains the unused ticks as
+/// budget, never above its D − C.
+fn give(session: &mut Session, due: u64, unused: u64) {
+    for row in 0..session.slots.len() {
+        let limit = session.budget_limit(row);
+        if let Some(job) = &mut session.slots[row].job {
+            if job.due > due {
+                job.budget = (job.budget + unused as i64).min(limit);
+            }
+        }
+    }
 }

@@ -31,6 +31,8 @@ pub const KINDS: &[Kind] = &[
     kind("full-load", 100, full_run),
     kind("ties", 300, loose_ties),
     kind("tight-ties", 120, tight_ties),
+    kind("gifts", 300, loose_gifts),
+    kind("tight-gifts", 60, tight_gifts),
     kind("damaged", 150, damaged_run),
     kind("numbers", 60, odd_number),
     kind("noise", 30, noise),
@@ -128,6 +130,36 @@ pub fn short_ties(rng: &mut Rng) -> Vec<u8> {
     timed_run(rng, &rows, 60)
 }
 
+/// A run in which finishes leave time to the jobs behind. At least three rows,
+/// so that one waiting job can gain more than once.
+fn giving_run(rng: &mut Rng, kind: table::Kind, most_steps: u32) -> Vec<u8> {
+    let makers: [RowMaker; 3] = [light_rows, small_rows, staggered_rows];
+    let make = rng.pick(&makers);
+    let mut rows = Vec::new();
+    while rows.len() < 3 {
+        rows = admitted_as(rng, make, kind);
+    }
+    let mut driver = Driver::new(&rows);
+    let style = Style::giving(rng);
+    let steps = rng.between(20, most_steps) as usize;
+    extend(&mut driver, rng, style, steps);
+    driver.text
+}
+
+fn loose_gifts(rng: &mut Rng) -> Vec<u8> {
+    giving_run(rng, table::Kind::Loose, 120)
+}
+
+/// The same where finishes give nothing.
+fn tight_gifts(rng: &mut Rng) -> Vec<u8> {
+    giving_run(rng, table::Kind::Tight, 120)
+}
+
+/// A short run in which finishes give.
+pub fn short_gifts(rng: &mut Rng) -> Vec<u8> {
+    giving_run(rng, table::Kind::Loose, 60)
+}
+
 fn long_run(rng: &mut Rng) -> Vec<u8> {
     let makers: [RowMaker; 4] = [light_rows, small_rows, full_rows, staggered_rows];
     let make = rng.pick(&makers);
@@ -145,7 +177,8 @@ fn far_clock(rng: &mut Rng) -> Vec<u8> {
         driver.push(Command::Choose);
         driver.push(Command::Advance(ticks as u32));
     }
-    let style = Style::meeting(rng);
+    let styles: [fn(&mut Rng) -> Style; 2] = [Style::meeting, Style::giving];
+    let style = rng.pick(&styles)(rng);
     extend(&mut driver, rng, style, 300);
     driver.text
 }

@@ -4,6 +4,7 @@
 pub mod calls;
 pub mod damage;
 pub mod driver;
+pub mod gifts;
 pub mod hard;
 pub mod inputs;
 pub mod options;
@@ -15,6 +16,7 @@ pub mod records;
 pub mod rng;
 pub mod runs;
 pub mod session;
+pub mod sessions;
 pub mod shrink;
 #[cfg(feature = "host")]
 #[path = "../../../bindings/rust/shuffle.rs"]

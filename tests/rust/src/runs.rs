@@ -3,7 +3,7 @@
 use crate::calls::{candidates, perform_on_sound, Call};
 use crate::driver::Driver;
 use crate::rng::Rng;
-use crate::session::{Session, IDLE};
+use crate::session::{Choice, Session, IDLE};
 use crate::table::HORIZON;
 use crate::text::{Command, Machine};
 
@@ -18,6 +18,11 @@ pub struct Style {
     pub words: usize,
     /// Out of 8 of the other steps, how many are timed so that deadlines meet.
     pub meetings: usize,
+    /// Out of 8 of the steps that are still left, how many are made so that a
+    /// finish has later jobs to give to, and a choice comes after it.
+    pub gifts: usize,
+    /// Out of 8 steps at which a chosen job may go on, how many finish it.
+    pub finishes: usize,
 }
 
 impl Style {
@@ -27,6 +32,8 @@ impl Style {
             refused: rng.pick(&[0, 1, 5]),
             words: rng.pick(&[0, 2, 6]),
             meetings: rng.pick(&[0, 0, 0, 4]),
+            gifts: 0,
+            finishes: rng.pick(&[1, 1, 4]),
         }
     }
 
@@ -34,6 +41,16 @@ impl Style {
     pub fn meeting(rng: &mut Rng) -> Self {
         Style {
             meetings: rng.pick(&[6, 7, 8]),
+            ..Style::random(rng)
+        }
+    }
+
+    /// A style in which finishes with later jobs waiting are common, and choices
+    /// after them.
+    pub fn giving(rng: &mut Rng) -> Self {
+        Style {
+            meetings: 0,
+            gifts: rng.pick(&[6, 7, 8]),
             ..Style::random(rng)
         }
     }
@@ -54,7 +71,9 @@ pub fn random_command(machine: &Machine, rng: &mut Rng, style: Style) -> Command
     } else if rng.chance(style.refused, 16) {
         doubtful_call(&machine.session, rng)
     } else if rng.chance(style.meetings, 8) {
-        timed_command(machine, rng)
+        timed_command(machine, rng, style)
+    } else if rng.chance(style.gifts, 8) {
+        giving_command(machine, rng)
     } else {
         accepted_call(&machine.session, rng, style)
     }
@@ -77,14 +96,14 @@ fn accepted_call(session: &Session, rng: &mut Rng, style: Style) -> Command {
     if !ready.is_empty() && rng.chance(style.arrivals, 8) {
         return Command::Arrive(rng.pick(&ready));
     }
-    run_or_choose(session, rng)
+    run_or_choose(session, rng, style)
 }
 
 /// Goes on with the choice in force, or makes one.
-fn run_or_choose(session: &Session, rng: &mut Rng) -> Command {
+fn run_or_choose(session: &Session, rng: &mut Rng, style: Style) -> Command {
     match session.choice {
         None => Command::Choose,
-        Some(choice) if choice.row != IDLE && rng.chance(1, 8) => Command::Finish,
+        Some(choice) if choice.row != IDLE && rng.chance(style.finishes, 8) => Command::Finish,
         Some(choice) => Command::Advance(accepted_ticks(session, rng, choice.left)),
     }
 }
@@ -106,7 +125,7 @@ fn meeting_rows(session: &Session) -> Vec<u32> {
 }
 
 /// A command on the way to a moment at which deadlines meet, or at it.
-fn timed_command(machine: &Machine, rng: &mut Rng) -> Command {
+fn timed_command(machine: &Machine, rng: &mut Rng, style: Style) -> Command {
     let session = &machine.session;
     let meeting = meeting_rows(session);
     if !meeting.is_empty() {
@@ -117,13 +136,13 @@ fn timed_command(machine: &Machine, rng: &mut Rng) -> Command {
         (Some(ticks), Some(choice)) => Command::Advance(choice.left.min(ticks) as u32),
         // So that jobs of one deadline also wait until their budgets are spent.
         (None, None) if deadlines_have_met(session) => patient_command(machine, rng),
-        (None, _) => first_arrival(session, rng),
+        (None, _) => first_arrival(session, rng, style),
     }
 }
 
 /// Lets a job arrive whose deadline another can meet later; where there is
 /// none, any that may.
-fn first_arrival(session: &Session, rng: &mut Rng) -> Command {
+fn first_arrival(session: &Session, rng: &mut Rng, style: Style) -> Command {
     let ready = ready_rows(session);
     let mut first = ready.clone();
     first.retain(|row| can_be_met(session, *row));
@@ -132,14 +151,14 @@ fn first_arrival(session: &Session, rng: &mut Rng) -> Command {
     } else if !ready.is_empty() {
         Command::Arrive(rng.pick(&ready))
     } else {
-        run_or_choose(session, rng)
+        run_or_choose(session, rng, style)
     }
 }
 
 /// Whether a job that arrived now could still be waiting when another arrives
 /// with its deadline: its budget lasts, or it does not run out.
 fn can_be_met(session: &Session, row: u32) -> bool {
-    let budget = session.full_budget(row as usize) as u64;
+    let budget = session.arrival_budget(row as usize) as u64;
     let longest_wait = budget.max(u64::from(session.rows[row as usize].run) - 1);
     let mut later = session.clone();
     perform_on_sound(&mut later, Call::Arrive(row));
@@ -158,6 +177,30 @@ fn patient_command(machine: &Machine, rng: &mut Rng) -> Command {
     } else {
         Command::Word(last)
     }
+}
+
+/// A command on the way to a finish while later jobs wait, or to a choice after
+/// it: mostly of the last candidate, whose span is often the least budget.
+fn giving_command(machine: &Machine, rng: &mut Rng) -> Command {
+    let Machine { session, words } = machine;
+    let ready = ready_rows(session);
+    match session.choice {
+        Some(choice) if later_job_waits(session, choice) && rng.chance(3, 4) => Command::Finish,
+        Some(choice) => Command::Advance(accepted_ticks(session, rng, choice.left)),
+        None if !ready.is_empty() && rng.chance(3, 4) => Command::Arrive(rng.pick(&ready)),
+        None if !words.is_empty() => Command::Choose,
+        None => match rng.below(4) {
+            0 => Command::Choose,
+            1 => Command::Word(random_word(rng)),
+            _ => Command::Word(candidates(session).len() as u32 - 1),
+        },
+    }
+}
+
+/// Whether a job waits for a later deadline than the chosen one.
+fn later_job_waits(session: &Session, choice: Choice) -> bool {
+    let chosen = session.job(choice.row);
+    chosen.is_some_and(|chosen| session.waiting().any(|job| job.due > chosen.due))
 }
 
 fn deadlines_have_met(session: &Session) -> bool {

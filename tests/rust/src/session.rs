@@ -51,10 +51,18 @@ impl Session {
         }
     }
 
-    /// The budget with which a job of this row arrives.
-    pub fn full_budget(&self, row: usize) -> i64 {
+    /// The budget with which a job of this row arrives; finishes may add to it.
+    pub fn arrival_budget(&self, row: usize) -> i64 {
         match self.kind {
             Kind::Loose => budget(&self.rows, row),
+            Kind::Tight => 0,
+        }
+    }
+
+    /// The most that the budget of a job of this row can be.
+    pub fn budget_limit(&self, row: usize) -> i64 {
+        match self.kind {
+            Kind::Loose => self.rows[row].spare(),
             Kind::Tight => 0,
         }
     }
@@ -127,7 +135,7 @@ impl Session {
                 (1..=u64::from(run)).contains(&job.left)
                     && i128::from(job.due) == due
                     && self.clock < job.due
-                    && (0..=self.full_budget(row)).contains(&job.budget)
+                    && (0..=self.budget_limit(row)).contains(&job.budget)
             })
     }
 

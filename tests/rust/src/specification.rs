@@ -1,5 +1,6 @@
-//! The specification's own examples, and moments at which equal deadlines go by
-//! who came first (change request 01).
+//! The specification's own examples, moments at which equal deadlines go by who
+//! came first (change request 01), and moments at which unused time goes to the
+//! jobs behind (change request 02).
 
 use crate::table::Row;
 
@@ -79,31 +80,40 @@ pub const EXAMPLES: &[Example] = &[
     },
 ];
 
-/// A start after which two or more waiting jobs have one deadline, its output,
-/// and ways to go on, each with what it adds to the output; in the form of the
-/// listing.
-struct Tie {
+/// A start, its output, and ways to go on, each with what it adds to the output;
+/// in the form of the listing.
+struct Moment {
     input: &'static str,
     output: &'static str,
     ends: &'static [[&'static str; 2]],
 }
 
-/// The inputs in which deadlines are equal, each with its output.
-pub fn ties() -> Vec<(String, String)> {
-    let ends = TIES
+/// Each start with each of its ways to go on: input and output.
+fn whole(moments: &[Moment]) -> Vec<(String, String)> {
+    let ends = moments
         .iter()
-        .flat_map(|tie| tie.ends.iter().map(move |end| (tie, end)));
-    ends.map(|(tie, [input, output])| {
-        let input = format!("{}{input}", tie.input);
-        let output = format!("{}{output}", tie.output);
+        .flat_map(|moment| moment.ends.iter().map(move |end| (moment, end)));
+    ends.map(|(moment, [input, output])| {
+        let input = format!("{}{input}", moment.input);
+        let output = format!("{}{output}", moment.output);
         (plain(&input), plain(&output))
     })
     .collect()
 }
 
-const TIES: &[Tie] = &[
+/// The inputs in which deadlines are equal, each with its output.
+pub fn ties() -> Vec<(String, String)> {
+    whole(TIES)
+}
+
+/// The inputs in which jobs finish early, each with its output.
+pub fn gifts() -> Vec<(String, String)> {
+    whole(GIFTS)
+}
+
+const TIES: &[Moment] = &[
     // Row 1 arrives at 0, row 0 at 10, both for 20: row 1 is the head.
-    Tie {
+    Moment {
         input: "T 1 10 10/T 1 20 20/A 1/W 1/W 9/G/R 10/A 0/",
         output: "0 M 0 1 2/0 B 0 0 8/0 B 0 1 17/0 A 0 1 20/0 G 0 16 10/10 R 0 0 0/10 A 0 0 20/",
         ends: &[
@@ -118,19 +128,19 @@ const TIES: &[Tie] = &[
         ],
     },
     // The same with the rows exchanged: here the row number agrees.
-    Tie {
+    Moment {
         input: "T 1 20 20/T 1 10 10/A 0/W 1/W 9/G/R 10/A 1/",
         output: "0 M 0 1 2/0 B 0 0 17/0 B 0 1 8/0 A 0 0 20/0 G 0 16 10/10 R 0 0 0/10 A 0 1 20/",
         ends: &[["G/", "10 G 0 0 1/"], ["W 1/G/", "10 G 0 1 1/"]],
     },
     // On the same tick the row number decides, whichever call came first.
-    Tie {
+    Moment {
         input: "T 2 10 10/T 2 10 10/A 1/A 0/",
         output: "0 M 0 1 2/0 B 0 0 6/0 B 0 1 6/0 A 0 1 10/0 A 0 0 10/",
         ends: &[["G/", "0 G 0 0 2/"], ["W 1/G/", "0 G 0 1 2/"]],
     },
     // Row 2 arrives at 0, row 0 at 10, row 1 at 20, all for 30.
-    Tie {
+    Moment {
         input: "T 1 20 20/T 1 10 10/T 1 30 30/A 2/W 1/W 9/G/R 10/A 0/W 2/W 9/G/R 10/A 1/",
         output: "0 M 0 1 3/0 B 0 0 16/0 B 0 1 7/0 B 0 2 24/0 A 0 2 30/0 G 0 16 10/10 R 0 0 0/\
             10 A 0 0 30/10 G 0 16 10/20 R 0 0 0/20 A 0 1 30/",
@@ -146,7 +156,7 @@ const TIES: &[Tie] = &[
         ],
     },
     // A job of an earlier deadline comes before both.
-    Tie {
+    Moment {
         input: "T 1 10 10/T 1 20 20/T 1 100 9/A 1/W 1/W 9/G/R 10/A 0/A 2/",
         output: "0 M 0 1 3/0 B 0 0 7/0 B 0 1 16/0 B 0 2 6/0 A 0 1 20/0 G 0 16 10/10 R 0 0 0/\
             10 A 0 0 20/10 A 0 2 19/",
@@ -157,14 +167,14 @@ const TIES: &[Tie] = &[
         ],
     },
     // The first to come has spent its budget, so it is the only candidate.
-    Tie {
+    Moment {
         input: "T 1 10 10/T 8 20 20/A 1/W 1/W 9/G/R 10/A 0/",
         output: "0 M 0 1 2/0 B 0 0 1/0 B 0 1 10/0 A 0 1 20/0 G 0 16 10/10 R 0 0 0/10 A 0 0 20/",
         ends: &[["W 1/G/R 8/G/", "10 G 0 1 8/18 R 0 0 1/18 G 0 16 1/"]],
     },
     // Whichever of the two runs, the other's budget of 2 neither limits its
     // span of 4 nor is charged for it.
-    Tie {
+    Moment {
         input: "T 4 50 10/T 4 50 20/A 1/W 1/W 9/G/R 10/A 0/",
         output: "0 M 0 1 2/0 B 0 0 2/0 B 0 1 12/0 A 0 1 20/0 G 0 16 10/10 R 0 0 0/10 A 0 0 20/",
         ends: &[
@@ -173,12 +183,101 @@ const TIES: &[Tie] = &[
         ],
     },
     // Tight: row 1 has run for two ticks when row 0 arrives for its deadline.
-    Tie {
+    Moment {
         input: "T 2 4 4/T 3 6 6/A 1/G/R 2/A 0/",
         output: "0 M 0 2 2/0 B 0 0 -1/0 B 0 1 -1/0 A 0 1 6/0 G 0 1 3/2 R 0 1 0/2 A 0 0 6/",
         ends: &[
             ["G/", "2 G 0 1 1/"],
             ["W 1/W 1/G/R 1/G/", "2 G 0 1 1/3 R 0 0 1/3 G 0 0 2/"],
         ],
+    },
+];
+
+const GIFTS: &[Moment] = &[
+    // V of row 1 is 30 − 3 − 4 = 23. Row 0 gives what it leaves of its 4 ticks.
+    Moment {
+        input: "T 4 100 20/T 3 100 30/A 0/A 1/G/",
+        output: "0 M 0 1 2/0 B 0 0 13/0 B 0 1 23/0 A 0 0 20/0 A 0 1 30/0 G 0 0 4/",
+        ends: &[
+            ["F/W 1/G/", "0 F 0 0 4/0 G 0 16 27/"],
+            ["R 1/F/W 1/G/", "1 R 0 3 0/1 F 0 0 3/1 G 0 16 26/"],
+            ["R 3/F/W 1/W 23/G/", "3 R 0 1 0/3 F 0 0 1/3 G 0 16 24/"],
+            ["R 4/W 1/G/", "4 R 0 0 1/4 G 0 16 23/"],
+        ],
+    },
+    // Row 1 has the later deadline and gives nothing: row 0 keeps its V of 5.
+    Moment {
+        input: "T 2 100 10/T 3 100 20/A 0/A 1/W 1/G/F/",
+        output: "0 M 0 1 2/0 B 0 0 5/0 B 0 1 15/0 A 0 0 10/0 A 0 1 20/0 G 0 1 3/0 F 0 1 3/",
+        ends: &[["W 1/G/", "0 G 0 16 5/"]],
+    },
+    // Both are for 20 at 10, with budgets of 6 and 4: neither gives to the other.
+    Moment {
+        input: "T 2 10 10/T 2 20 20/A 1/W 1/W 9/G/R 10/A 0/",
+        output: "0 M 0 1 2/0 B 0 0 6/0 B 0 1 14/0 A 0 1 20/0 G 0 16 10/10 R 0 0 0/10 A 0 0 20/",
+        ends: &[
+            ["W 0/G/F/W 1/G/", "10 G 0 1 2/10 F 0 1 2/10 G 0 16 6/"],
+            ["W 1/G/F/W 1/G/", "10 G 0 0 2/10 F 0 0 2/10 G 0 16 4/"],
+        ],
+    },
+    // Row 3 arrives with 50 − 14 = 36. Others that finish at once give it 4, 3
+    // and 2, in any order, and it then has D − C, 45.
+    Moment {
+        input: "T 4 100 20/T 3 100 30/T 2 100 40/T 5 100 50/A 0/A 1/A 2/A 3/",
+        output: "0 M 0 1 4/0 B 0 0 6/0 B 0 1 16/0 B 0 2 26/0 B 0 3 36/\
+            0 A 0 0 20/0 A 0 1 30/0 A 0 2 40/0 A 0 3 50/",
+        ends: &[
+            [
+                "G/F/G/F/G/F/W 1/G/",
+                "0 G 0 0 4/0 F 0 0 4/0 G 0 1 3/0 F 0 1 3/0 G 0 2 2/0 F 0 2 2/0 G 0 16 45/",
+            ],
+            [
+                "W 2/W 1/G/F/W 1/W 2/G/F/G/F/W 1/G/",
+                "0 G 0 2 2/0 F 0 2 2/0 G 0 1 3/0 F 0 1 3/0 G 0 0 4/0 F 0 0 4/0 G 0 16 45/",
+            ],
+            // Row 1 runs a tick ahead of row 0, which has 5 then and limits idle.
+            [
+                "W 1/W 2/G/R 1/F/W 3/G/",
+                "0 G 0 1 3/1 R 0 2 0/1 F 0 1 2/1 G 0 16 5/",
+            ],
+        ],
+    },
+    // Row 2 runs ahead of row 1, whose budget is 14 + 5 once row 0 has finished.
+    Moment {
+        input: "T 5 100 50/T 1 100 60/T 40 100 100/A 0/A 1/A 2/G/",
+        output: "0 M 0 1 3/0 B 0 0 4/0 B 0 1 14/0 B 0 2 54/\
+            0 A 0 0 50/0 A 0 1 60/0 A 0 2 100/0 G 0 0 5/",
+        ends: &[
+            ["F/W 1/G/", "0 F 0 0 5/0 G 0 2 19/"],
+            ["F/W 2/W 18/G/", "0 F 0 0 5/0 G 0 16 19/"],
+            ["F/W 2/W 19/G/", "0 F 0 0 5/0 G 0 16 1/"],
+        ],
+    },
+    // Row 1 arrives with a budget of 0; the 3 ticks of row 0 let idle go first.
+    Moment {
+        input: "T 4 100 40/T 5 100 9/A 0/W 1/W 30/G/R 31/G/R 1/A 1/W 1/G/",
+        output: "0 M 0 1 2/0 B 0 0 31/0 B 0 1 0/0 A 0 0 40/0 G 0 16 31/31 R 0 0 0/31 G 0 0 4/\
+            32 R 0 3 0/32 A 0 1 41/32 G 0 0 3/",
+        ends: &[
+            ["F/G/", "32 F 0 0 3/32 G 0 16 3/"],
+            ["R 3/G/", "35 R 0 0 1/35 G 0 1 5/"],
+            [
+                "R 2/F/G/R 1/G/",
+                "34 R 0 1 0/34 F 0 0 1/34 G 0 16 1/35 R 0 0 0/35 G 0 1 5/",
+            ],
+        ],
+    },
+    // The job that gained is over; the next one of its row has V, 23, again.
+    Moment {
+        input: "T 4 100 20/T 3 100 30/A 0/A 1/G/F/G/R 3/G/R 97/A 1/",
+        output: "0 M 0 1 2/0 B 0 0 13/0 B 0 1 23/0 A 0 0 20/0 A 0 1 30/0 G 0 0 4/0 F 0 0 4/\
+            0 G 0 1 3/3 R 0 0 1/3 G 0 16 1000000/100 R 0 999903 0/100 A 0 1 130/",
+        ends: &[["W 1/G/", "100 G 0 16 23/"]],
+    },
+    // Tight: nothing is given, and the head stays the only candidate.
+    Moment {
+        input: "T 1 2 2/T 2 4 4/A 0/A 1/W 1/G/F/",
+        output: "0 M 0 2 2/0 B 0 0 -1/0 B 0 1 0/0 A 0 0 2/0 A 0 1 4/0 G 0 0 1/0 F 0 0 1/",
+        ends: &[["G/", "0 G 0 1 2/"]],
     },
 ];

@@ -22,6 +22,11 @@ impl Row {
             && u64::from(self.period) <= HORIZON
     }
 
+    /// D − C; signed, since the row may be unlawful.
+    pub fn spare(&self) -> i64 {
+        i64::from(self.deadline) - i64::from(self.run)
+    }
+
     /// The row as it stands in a slice: C, T, D.
     pub fn numbers(&self) -> [u32; 3] {
         [self.run, self.period, self.deadline]

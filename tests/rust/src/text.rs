@@ -138,12 +138,21 @@ impl Machine {
 
 /// The output for an input.
 pub fn run(input: &[u8]) -> Vec<u8> {
-    run_watched(input, |_, _| {})
+    run_with(input, Machine::execute)
 }
 
 /// The output for an input; `watch` sees each command after the table, and the
 /// machine before it.
-pub fn run_watched(input: &[u8], watch: impl FnMut(&Machine, Command)) -> Vec<u8> {
+pub fn run_watched(input: &[u8], mut watch: impl FnMut(&Machine, Command)) -> Vec<u8> {
+    run_with(input, |machine, command| {
+        watch(machine, command);
+        machine.execute(command)
+    })
+}
+
+/// The output for an input, each command after the table performed by
+/// `execute`.
+pub fn run_with(input: &[u8], execute: impl FnMut(&mut Machine, Command) -> Outcome) -> Vec<u8> {
     let mut output = Vec::new();
     let rows = leading_rows(input);
     match admit_rows(&rows) {
@@ -154,7 +163,7 @@ pub fn run_watched(input: &[u8], watch: impl FnMut(&Machine, Command)) -> Vec<u8
         Ok(table) => {
             print_table(&mut output, &table);
             let rest = lines(input).zip(1..).skip(rows.len());
-            run_calls(&mut output, Machine::new(table), rest, watch);
+            run_calls(&mut output, Machine::new(table), rest, execute);
         }
     }
     output
@@ -173,12 +182,11 @@ fn run_calls<'a>(
     output: &mut Vec<u8>,
     mut machine: Machine,
     lines: impl Iterator<Item = (&'a [u8], u64)>,
-    mut watch: impl FnMut(&Machine, Command),
+    mut execute: impl FnMut(&mut Machine, Command) -> Outcome,
 ) {
     for (line, line_number) in lines {
         let outcome = read_line(line).map_or(Outcome::Unreadable, |command| {
-            watch(&machine, command);
-            machine.execute(command)
+            execute(&mut machine, command)
         });
         let clock = machine.session.clock;
         match outcome {

@@ -118,3 +118,48 @@ impl fmt::Display for TieTally {
         )
     }
 }
+
+/// Accepted choices with such a tie.
+#[derive(Clone, Copy, Debug, Default)]
+pub struct TiedChoices {
+    reached: u64,
+    /// Those in which a tied job arrived before tick 0.
+    below_zero: u64,
+    /// Those that deadline and row number alone would answer otherwise.
+    shown: u64,
+}
+
+impl TiedChoices {
+    /// Counts a choice with these words that this session accepts.
+    pub fn add(&mut self, session: &Session, words: &[u32]) {
+        let rows = tied_rows(session);
+        let arrivals = rows.iter().filter_map(|row| session.arrival(*row));
+        let is_below_zero = arrivals.min().is_some_and(|first| first < 0);
+        self.reached += u64::from(!rows.is_empty());
+        self.below_zero += u64::from(is_below_zero);
+        self.shown += u64::from(!rows.is_empty() && is_shown(session, words));
+    }
+
+    /// What was never reached.
+    pub fn gaps(&self) -> Vec<String> {
+        let counts = [
+            (self.reached, "a tie that arrival decides"),
+            (self.below_zero, "one with an arrival below 0"),
+            (self.shown, "one that the answer shows"),
+        ];
+        let gaps = counts.into_iter().filter(|(count, _)| *count == 0);
+        gaps.map(|(_, name)| format!("{name} was never reached"))
+            .collect()
+    }
+}
+
+impl fmt::Display for TiedChoices {
+    fn fmt(&self, formatter: &mut fmt::Formatter) -> fmt::Result {
+        write!(
+            formatter,
+            "arrival decides a tie against the row number in {} choices, {} of them with an \
+            arrival below 0, and {} show it in the answer",
+            self.reached, self.below_zero, self.shown
+        )
+    }
+}

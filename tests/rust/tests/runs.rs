@@ -1,10 +1,11 @@
 //! Random lists of calls against the specification's ledger.
 
 use shuffle_model::driver::Driver;
+use shuffle_model::gifts::Gifts;
 use shuffle_model::rng::Rng;
 use shuffle_model::runs::{random_command, Style};
-use shuffle_model::session::IDLE;
-use shuffle_model::table::Row;
+use shuffle_model::session::{Session, IDLE};
+use shuffle_model::table::{Kind, Row};
 use shuffle_model::tables::{
     admitted, full_rows, light_rows, small_rows, staggered_rows, RowMaker,
 };
@@ -100,20 +101,44 @@ impl Ledger {
     }
 }
 
+/// After an accepted finish: in a loose session each job of later deadline has
+/// gained all of the unused ticks, since the limit of its budget cuts nothing in
+/// a run that began with an admission; and no other job has gained any.
+fn check_gains(before: &Session, after: &Session, [row, unused]: [u64; 2]) {
+    let finished = before.job(row as u32).expect("a finished job waited");
+    for (old, new) in before.slots.iter().zip(&after.slots) {
+        if let (Some(old), Some(new)) = (old.job, new.job) {
+            let gains = before.kind == Kind::Loose && old.due > finished.due;
+            let gain = if gains { unused as i64 } else { 0 };
+            assert_eq!(new.budget, old.budget + gain, "{before:?}");
+        }
+    }
+}
+
+/// What a run reached.
+struct Reached {
+    ties: Ties,
+    gifts: Gifts,
+}
+
 /// Runs random calls and checks ledger and session after each.
-fn check_run(rng: &mut Rng, rows: &[Row], style: Style, steps: usize) -> Ties {
+fn check_run(rng: &mut Rng, rows: &[Row], style: Style, steps: usize) -> Reached {
     let mut driver = Driver::new(rows);
     let mut ledger = Ledger::new(rows);
-    let mut ties = Ties::default();
+    let (mut ties, mut gifts) = (Ties::default(), Gifts::default());
     for _ in 0..steps {
         let command = random_command(&driver.machine, rng, style);
         ties.watch(&driver.machine, command);
+        gifts.watch(&driver.machine, command);
         let before = driver.machine.session.clone();
         if let Outcome::Answered(_, answer) = driver.push(command) {
             if answer.number == 0 {
                 ledger.enter(command, answer.values);
             } else {
                 assert_eq!(driver.machine.session, before, "{command:?}");
+            }
+            if answer.number == 0 && command == Command::Finish {
+                check_gains(&before, &driver.machine.session, answer.values);
             }
         }
         let text = String::from_utf8_lossy(&driver.text);
@@ -122,19 +147,18 @@ fn check_run(rng: &mut Rng, rows: &[Row], style: Style, steps: usize) -> Ties {
         assert_eq!(driver.machine.session.in_order(), ledger.order(), "{text}");
         assert!(ledger.no_job_is_late(), "{text}");
     }
-    ties
+    Reached { ties, gifts }
 }
 
-/// Checks runs, and says how many of them showed a tie that arrival decides
-/// against the row number.
-fn check_runs(make: RowMaker, style: fn(&mut Rng) -> Style, runs: usize) -> usize {
+/// Checks runs, and gives what each of them reached.
+fn check_runs(make: RowMaker, style: fn(&mut Rng) -> Style, runs: usize) -> Vec<Reached> {
     let mut rng = Rng::new(5);
-    let shown = (0..runs).filter(|_| {
+    let check = |_| {
         let rows = admitted(&mut rng, make);
         let style = style(&mut rng);
-        check_run(&mut rng, &rows, style, 200).shown
-    });
-    shown.count()
+        check_run(&mut rng, &rows, style, 200)
+    };
+    (0..runs).map(check).collect()
 }
 
 #[test]
@@ -154,8 +178,18 @@ fn no_job_is_late_on_light_tables() {
 
 #[test]
 fn no_job_is_late_where_deadlines_meet() {
-    let shown = check_runs(staggered_rows, Style::meeting, 500);
+    let runs = check_runs(staggered_rows, Style::meeting, 500);
+    let shown = runs.iter().filter(|run| run.ties.shown).count();
     assert!(shown > 300, "{shown} of 500 show a tie");
+}
+
+#[test]
+fn no_job_is_late_where_finishes_give() {
+    for make in [light_rows as RowMaker, small_rows, staggered_rows] {
+        let runs = check_runs(make, Style::giving, 200);
+        let several = runs.iter().filter(|run| run.gifts.several).count();
+        assert!(several > 20, "{several} of 200 give to a job twice");
+    }
 }
 
 #[test]

@@ -5,7 +5,8 @@ use shuffle_model::rng::Rng;
 use shuffle_model::session::{Choice, Job, Session, Slot, CLOCK_END, IDLE};
 use shuffle_model::table::{admit, Kind, Row, HORIZON};
 
-/// At 5: row 0 arrived at 2, row 1 at 4 and is chosen. V is 5 and 8.
+/// At 5: row 0 arrived at 2, row 1 at 4 and is chosen. V is 5 and 8, and D − C
+/// is 8 and 12.
 fn loose() -> Session {
     let mut session = Session::new(admit(&[2, 10, 10, 3, 20, 15]).unwrap());
     session.clock = 5;
@@ -164,12 +165,12 @@ fn deadline_lies_ahead() {
 }
 
 #[test]
-fn budget_lies_from_zero_to_the_full_one() {
+fn budget_lies_from_zero_to_d_less_c() {
     let budget = |budget| changed_job(1, move |job| job.budget = budget);
-    assert_all(true, vec![budget(0), budget(8)]);
+    assert_all(true, vec![budget(0), budget(8), budget(9), budget(12)]);
     assert_all(
         false,
-        vec![budget(-1), budget(9), budget(i64::MIN), budget(i64::MAX)],
+        vec![budget(-1), budget(13), budget(i64::MIN), budget(i64::MAX)],
     );
     let spendable = with(tight(), |session| session.slots[1] = slot(9, 9, 2, 1));
     assert_all(false, vec![spendable]);
@@ -264,7 +265,7 @@ fn unsound_sessions_are_refused_before_all_else() {
 fn disturb(session: &mut Session, rng: &mut Rng) {
     let row = rng.below(session.slots.len());
     let near = session.clock.wrapping_add(u64::from(rng.between(0, 24)));
-    let value = rng.pick(&[0, 1, 2, near, CLOCK_END, 1 << 63, u64::MAX]);
+    let value = rng.pick(&[0, 1, 2, 8, 12, near, CLOCK_END, 1 << 63, u64::MAX]);
     let slot = &mut session.slots[row];
     match (rng.below(7), &mut slot.job, &mut session.choice) {
         (0, _, _) => session.clock = value,

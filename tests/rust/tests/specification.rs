@@ -3,7 +3,7 @@
 use shuffle_model::calls::candidates;
 use shuffle_model::driver::table_text;
 use shuffle_model::session::{Job, Session, Slot, IDLE};
-use shuffle_model::specification::{listing, plain, ties, EXAMPLES};
+use shuffle_model::specification::{gifts, listing, plain, ties, EXAMPLES};
 use shuffle_model::table::{admit, busy_length, demand, overloads_by_scan, Refusal, Row};
 use shuffle_model::text::run;
 
@@ -17,12 +17,21 @@ fn listing_is_reproduced() {
     assert_eq!(String::from_utf8(run(input.as_bytes())).unwrap(), output);
 }
 
-#[test]
-fn equal_deadlines_go_by_who_came_first() {
-    for (input, output) in ties() {
+fn check_outputs(moments: Vec<(String, String)>) {
+    for (input, output) in moments {
         let actual = String::from_utf8(run(input.as_bytes())).unwrap();
         assert_eq!(actual, output, "{input}");
     }
+}
+
+#[test]
+fn equal_deadlines_go_by_who_came_first() {
+    check_outputs(ties());
+}
+
+#[test]
+fn unused_time_goes_to_the_jobs_behind() {
+    check_outputs(gifts());
 }
 
 #[test]

@@ -1,14 +1,17 @@
 //! The parts that the comparing tools rest on.
 
+use shuffle_model::calls::{perform, Call};
+use shuffle_model::gifts::{shares, FinishTally, GiftTally, Gifts, Share};
 use shuffle_model::hard::{full_to, full_to_one, mutant, utilisation, with_longer_deadlines};
 use shuffle_model::inputs::random_input;
 use shuffle_model::rng::Rng;
+use shuffle_model::sessions::sound_session;
 use shuffle_model::shrink::shrink;
-use shuffle_model::specification::{listing, plain, ties};
+use shuffle_model::specification::{gifts, listing, plain, ties};
 use shuffle_model::table::{Row, ROW_LIMIT};
 use shuffle_model::tally::Tally;
 use shuffle_model::text::{run, run_watched};
-use shuffle_model::ties::{TieTally, Ties};
+use shuffle_model::ties::{TieTally, TiedChoices, Ties};
 
 #[test]
 fn shrinking_finds_the_shortest_input() {
@@ -56,7 +59,7 @@ fn gaps_name_what_is_missing_and_what_is_impossible() {
     assert!(tally.gaps().contains(&"R 12 was not expected".to_string()));
 }
 
-/// What an input in the form of the listing reaches.
+/// Which ties an input in the form of the listing reaches.
 fn watched(input: &str) -> Ties {
     let mut ties = Ties::default();
     run_watched(plain(input).as_bytes(), |machine, command| {
@@ -112,11 +115,12 @@ fn ties_count_where_arrival_decides_against_the_row_number() {
 
 #[test]
 fn watching_changes_no_output() {
-    for (input, output) in ties() {
+    for (input, output) in ties().into_iter().chain(gifts()) {
         assert_eq!(run(input.as_bytes()), output.as_bytes());
-        let mut ties = Ties::default();
+        let (mut ties, mut gifts) = (Ties::default(), Gifts::default());
         let watched = run_watched(input.as_bytes(), |machine, command| {
-            ties.watch(machine, command)
+            ties.watch(machine, command);
+            gifts.watch(machine, command);
         });
         assert_eq!(watched, output.as_bytes());
     }
@@ -149,6 +153,183 @@ fn too_few_ties_are_named() {
         "arrival decides a tie against the row number in 3 inputs, \
         and 1 of them show it in an answer"
     );
+}
+
+#[test]
+fn choices_of_sound_sessions_reach_every_sort_of_tie() {
+    let mut rng = Rng::new(8);
+    let mut ties = TiedChoices::default();
+    assert_eq!(ties.gaps().len(), 3);
+    for _ in 0..2_000 {
+        let session = sound_session(&mut rng);
+        if session.choice.is_none() {
+            ties.add(&session, &[rng.draw() as u32]);
+        }
+    }
+    assert!(ties.gaps().is_empty(), "{ties}");
+}
+
+/// Which gifts an input in the form of the listing reaches: given, several,
+/// shown; and what is not given: to an equal deadline, in a tight session.
+fn gifts_of(input: &str) -> ([bool; 3], [bool; 2]) {
+    let mut gifts = Gifts::default();
+    let input = plain(input).into_bytes();
+    let output = run_watched(&input, |machine, command| gifts.watch(machine, command));
+    gifts.compare(&input, &output);
+    (
+        [gifts.given, gifts.several, gifts.shown],
+        [gifts.equal, gifts.tight],
+    )
+}
+
+#[test]
+fn gifts_count_where_a_finish_gives() {
+    // Row 0 gives 4 ticks to row 1, whose V is 23.
+    let chosen = "T 4 100 20/T 3 100 30/A 0/A 1/G/";
+    let go_on = |end: &str| gifts_of(&format!("{chosen}{end}"));
+    for end in ["", "R 4/G/F/", "R 1/G/W 1/", "R 5/A 0/x/F/"] {
+        assert_eq!(go_on(end), ([false; 3], [false; 2]), "{end}");
+    }
+    // The head and its span are the same without the gift; so are spans from a
+    // word below 23.
+    for end in ["F/", "F/G/", "R 3/F/W 2/G/R 3/G/", "F/W 1/W 22/G/"] {
+        assert_eq!(go_on(end), ([true, false, false], [false; 2]), "{end}");
+    }
+    for end in ["F/W 1/G/", "F/W 1/W 23/G/", "R 3/F/A 0/F/R 0/W 1/G/"] {
+        assert_eq!(go_on(end), ([true, false, true], [false; 2]), "{end}");
+    }
+}
+
+#[test]
+fn gifts_count_where_one_job_gains_more_than_once() {
+    let chosen = "T 4 100 20/T 3 100 30/T 2 100 40/A 0/A 1/A 2/G/F/G/";
+    let go_on = |end: &str| gifts_of(&format!("{chosen}{end}")).0;
+    assert_eq!(go_on("R 3/"), [true, false, false]);
+    assert_eq!(go_on("F/"), [true, true, false]);
+    assert_eq!(go_on("F/W 1/G/"), [true, true, true]);
+    // Two jobs of row 1, each of which gains once.
+    let twice = "T 4 50 20/T 3 50 30/A 0/A 1/G/F/G/R 3/G/R 47/A 0/A 1/G/F/";
+    assert_eq!(gifts_of(twice).0, [true, false, false]);
+}
+
+#[test]
+fn gifts_count_what_is_not_given() {
+    // Both for 20.
+    let equal = "T 2 10 10/T 2 20 20/A 1/W 1/W 9/G/R 10/A 0/G/F/W 1/G/";
+    assert_eq!(gifts_of(equal), ([false; 3], [true, false]));
+    let tight = "T 1 2 2/T 2 4 4/A 0/A 1/G/F/W 1/G/";
+    assert_eq!(gifts_of(tight), ([false; 3], [false, true]));
+    // The later of the two gives nothing to the earlier.
+    let earlier = "T 2 100 10/T 3 100 20/A 0/A 1/W 1/G/F/W 1/G/";
+    assert_eq!(gifts_of(earlier), ([false; 3], [false; 2]));
+}
+
+#[test]
+fn too_few_gifts_are_named() {
+    let tally = |inputs: &[(u64, Gifts)]| {
+        let mut tally = GiftTally::default();
+        for (count, gifts) in inputs {
+            let mut part = GiftTally::default();
+            (0..*count).for_each(|_| part.add(gifts));
+            tally.merge(part);
+        }
+        tally
+    };
+    let mut all = Gifts::default();
+    assert_eq!(tally(&[(1, all.clone())]).gaps().len(), 5);
+    (all.given, all.several, all.shown) = (true, true, true);
+    (all.equal, all.tight) = (true, true);
+    assert!(tally(&[(7, Gifts::default()), (1, all.clone())])
+        .gaps()
+        .is_empty());
+    assert_eq!(
+        tally(&[(8, Gifts::default()), (1, all.clone())]).gaps(),
+        ["1 of 9 inputs have a finish that gives (fewer than one in 8)"]
+    );
+    assert_eq!(
+        tally(&[(2, Gifts::default()), (1, all)]).to_string(),
+        "a finish gives to a later job in 1 inputs, in 1 of them more than once to one job, \
+        and 1 show it in an answer; a job gains nothing in 1 inputs since its deadline is \
+        equal, in 1 since the session is tight"
+    );
+}
+
+#[test]
+fn shares_are_what_a_finish_gives() {
+    let mut rng = Rng::new(6);
+    let mut tally = FinishTally::default();
+    let calls = 20_000;
+    for _ in 0..calls {
+        let before = sound_session(&mut rng);
+        let mut after = before.clone();
+        let answer = perform(&mut after, Call::Finish);
+        let shares = shares(&before);
+        if answer.number != 0 {
+            assert!(shares.is_empty(), "{before:?}");
+            continue;
+        }
+        tally.add(&before);
+        let unused = answer.values[1] as i64;
+        assert_eq!(shares.len(), after.waiting().count());
+        for (row, share) in shares {
+            let [old, new] = [&before, &after].map(|session| session.job(row).unwrap().budget);
+            let limit = before.budget_limit(row as usize);
+            let is_right = match share {
+                Share::Whole => new == old + unused,
+                Share::Part => old < new && new < old + unused && new == limit,
+                Share::Full => old == new && new == limit,
+                Share::Earlier | Share::Equal | Share::Tight => old == new,
+            };
+            assert!(is_right, "{row} {share:?} {before:?}");
+        }
+    }
+    assert!(tally.gaps(calls).is_empty(), "{tally}");
+}
+
+#[test]
+fn too_few_finishes_of_a_sort_are_named() {
+    let tally = FinishTally::default();
+    assert_eq!(tally.gaps(0).len(), 0);
+    let gaps = tally.gaps(1);
+    assert_eq!(gaps.len(), 6);
+    assert_eq!(
+        gaps[1],
+        "0 finishes give a part up to the limit (fewer than one in 10000 calls)"
+    );
+    assert!(tally
+        .to_string()
+        .starts_with("of 0 accepted finishes 0 give to some job, 0 give a part"));
+}
+
+#[test]
+fn sound_sessions_hold_every_budget_up_to_its_limit() {
+    let mut rng = Rng::new(7);
+    // Of loose sessions, where these are different: 0, below V, V, above V, D − C
+    // and one less.
+    let mut seen = [0; 6];
+    for _ in 0..2_000 {
+        let session = sound_session(&mut rng);
+        for row in 0..session.rows.len() {
+            let v = session.arrival_budget(row);
+            let limit = session.rows[row].spare();
+            let Some(job) = session.slots[row].job.filter(|_| 1 < v && v + 2 < limit) else {
+                continue;
+            };
+            let budget = job.budget;
+            let places = [
+                budget == 0,
+                0 < budget && budget < v,
+                budget == v,
+                v < budget && budget < limit,
+                budget == limit,
+                budget == limit - 1,
+            ];
+            for (seen, is_there) in seen.iter_mut().zip(places) {
+                *seen += u32::from(is_there);
+            }
+        }
+    }
+    assert!(seen.iter().all(|seen| *seen > 30), "{seen:?}");
 }
 
 #[test]

@@ -9,13 +9,14 @@ use std::path::Path;
 
 use shuffle_model::damage::DAMAGES;
 use shuffle_model::driver::table_text;
+use shuffle_model::gifts::Gifts;
 use shuffle_model::inputs::{
-    full_run, light_run, odd_number_input, short_run, short_ties, small_run, ODD_LINES,
-    ODD_NUMBERS, SPECIALS,
+    full_run, light_run, odd_number_input, short_gifts, short_run, short_ties, small_run,
+    ODD_LINES, ODD_NUMBERS, SPECIALS,
 };
 use shuffle_model::options::fail;
 use shuffle_model::rng::Rng;
-use shuffle_model::specification::{listing, plain, ties, EXAMPLES};
+use shuffle_model::specification::{gifts, listing, plain, ties, EXAMPLES};
 use shuffle_model::table::{admit_rows, compared_range, overloads_by_scan, Row};
 use shuffle_model::tables::{light_rows, urgent_rows, RowMaker};
 use shuffle_model::text::{leading_rows, run, run_watched};
@@ -28,6 +29,8 @@ const LONGEST_RANDOM_CASE: usize = 500;
 const LONGEST_STDIN: usize = 60_000;
 /// So many cases must show that arrival decides a tie against the row number.
 const LEAST_TIES: usize = 60;
+/// So many cases must show in an answer that a finish gave to a later job.
+const LEAST_GIFTS: usize = 30;
 
 fn main() -> io::Result<()> {
     let arguments: Vec<String> = std::env::args().skip(1).collect();
@@ -37,6 +40,8 @@ fn main() -> io::Result<()> {
     let cases = all_cases();
     let ties = cases.iter().filter(|case| shows_a_tie(case)).count();
     assert!(ties >= LEAST_TIES, "{ties} cases show a tie");
+    let gifts = cases.iter().filter(|case| shows_a_gift(case)).count();
+    assert!(gifts >= LEAST_GIFTS, "{gifts} cases show a gift");
     let (stdin, stdout) = store(&cases);
     assert!(stdin.len() < LONGEST_STDIN, "{} bytes", stdin.len());
     fs::write(Path::new(directory).join("stdin"), stdin)?;
@@ -63,12 +68,13 @@ fn all_cases() -> Vec<Vec<u8>> {
     cases.extend(damaged_cases(&mut rng, 3));
     cases.retain(|case| case.len() <= LONGEST_CASE && has_one_output(case));
     while cases.len() < CASES {
-        let make = match rng.below(9) {
+        let make = match rng.below(13) {
             0 => light_run,
             1 | 2 => small_run,
             3 => full_run,
             4 => short_run,
-            _ => short_ties,
+            5..10 => short_ties,
+            _ => short_gifts,
         };
         let case = make(&mut rng);
         if case.len() <= LONGEST_RANDOM_CASE && has_one_output(&case) {
@@ -89,9 +95,10 @@ fn fixed_cases() -> Vec<Vec<u8>> {
     let each_line = ODD_LINES.iter().map(|line| (line, &"4294967296"));
     let odd = each_number.chain(each_line);
     let odd = odd.map(|(line, number)| odd_number_input(line, number));
-    let ties = ties().into_iter().map(|(input, _)| input.into_bytes());
+    let moments = ties().into_iter().chain(gifts());
+    let moments = moments.map(|(input, _)| input.into_bytes());
     let fixed = listing.chain(tables).chain(texts).chain(many_rows);
-    fixed.chain(odd).chain(ties).collect()
+    fixed.chain(odd).chain(moments).collect()
 }
 
 /// One input for each refusal of the four calls, and what is accepted next.
@@ -108,6 +115,13 @@ fn shows_a_tie(case: &[u8]) -> bool {
     let mut ties = Ties::default();
     run_watched(case, |machine, command| ties.watch(machine, command));
     ties.shown
+}
+
+fn shows_a_gift(case: &[u8]) -> bool {
+    let mut gifts = Gifts::default();
+    let output = run_watched(case, |machine, command| gifts.watch(machine, command));
+    gifts.compare(case, &output);
+    gifts.shown
 }
 
 /// Whether the output is determined: refusal 3 may name any overloaded tick.

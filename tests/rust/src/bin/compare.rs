@@ -5,6 +5,7 @@ use std::sync::atomic::{AtomicBool, AtomicU64, Ordering};
 use std::thread;
 use std::time::Instant;
 
+use shuffle_model::gifts::{GiftTally, Gifts};
 use shuffle_model::inputs::{random_input, KINDS};
 use shuffle_model::options::{fail, Options};
 use shuffle_model::process::{Finished, Program};
@@ -17,7 +18,7 @@ use shuffle_model::ties::{TieTally, Ties};
 
 const THREADS: usize = 2;
 /// From this many inputs on, every reachable answer must have been reached, and
-/// ties that arrival decides must be many enough.
+/// ties that arrival decides and finishes that give must be many enough.
 const FULL_COUNT: u64 = 20_000;
 const DEFAULT_SEED: u64 = 20_250_301;
 
@@ -42,6 +43,7 @@ fn main() {
     );
     let mut gaps = report.answers.gaps();
     gaps.extend(report.ties.gaps());
+    gaps.extend(report.gifts.gaps());
     if count >= FULL_COUNT && !gaps.is_empty() {
         println!("FAILED: {}", gaps.join(", "));
         exit(1);
@@ -91,7 +93,12 @@ impl<'a> Shared<'a> {
             }
             let (kind, input) = random_input(&mut Rng::for_case(self.seed, case));
             let mut ties = Ties::default();
-            let expected = run_watched(&input, |machine, command| ties.watch(machine, command));
+            let mut gifts = Gifts::default();
+            let expected = run_watched(&input, |machine, command| {
+                ties.watch(machine, command);
+                gifts.watch(machine, command);
+            });
+            gifts.compare(&input, &expected);
             if fault(self.program, &input, &expected).is_some() {
                 report.disagreement = Some(case);
                 self.stop.store(true, Ordering::Relaxed);
@@ -99,6 +106,7 @@ impl<'a> Shared<'a> {
             report.inputs[kind] += 1;
             report.answers.add(&expected);
             report.ties.add(ties);
+            report.gifts.add(&gifts);
         }
         report
     }
@@ -109,6 +117,7 @@ struct Report {
     inputs: [u64; KINDS.len()],
     answers: Tally,
     ties: TieTally,
+    gifts: GiftTally,
     disagreement: Option<u64>,
 }
 
@@ -119,6 +128,7 @@ impl Report {
         }
         self.answers.merge(other.answers);
         self.ties.merge(other.ties);
+        self.gifts.merge(other.gifts);
         // The lowest case, so that equal seeds show equal disagreements.
         let found = self.disagreement.into_iter().chain(other.disagreement);
         self.disagreement = found.min();
@@ -130,12 +140,13 @@ impl Report {
             .map(|(kind, inputs)| format!("{} {inputs}", kind.name))
             .collect();
         format!(
-            "{} inputs agree ({}); {} output lines; answers {}; {}",
+            "{} inputs agree ({}); {} output lines; answers {}; {}; {}",
             self.inputs.iter().sum::<u64>(),
             by_kind.join(", "),
             self.answers.lines(),
             self.answers,
-            self.ties
+            self.ties,
+            self.gifts
         )
     }
 }

@@ -4,23 +4,26 @@
 use std::process::exit;
 use std::time::Instant;
 
+use shuffle_model::gifts::FinishTally;
 use shuffle_model::options::Options;
 use shuffle_model::record::{expected, expected_budgets, is_sound, replies_agree, view, Request};
-use shuffle_model::records::{around, displace, random_record, random_table, sound_record};
+use shuffle_model::records::{around, displace, random_record, sound_record};
 use shuffle_model::rng::Rng;
 use shuffle_model::runs::{random_command, Style};
 use shuffle_model::session::CLOCK_END;
+use shuffle_model::sessions::random_table;
 use shuffle_model::shuffle::{budget, Reply, Session as Record};
 use shuffle_model::table::Row;
 use shuffle_model::tables::{any_rows, long_busy_rows};
 use shuffle_model::text::{Command, Machine};
-use shuffle_model::ties::{is_shown, tied_rows};
+use shuffle_model::ties::TiedChoices;
 
 const DEFAULT_CALLS: u64 = 1_000_000;
 const DEFAULT_SEED: u64 = 20_250_301;
 /// The answer numbers of the library: 0 to 12.
 const NUMBERS: usize = 13;
-/// From this many calls on, each sort of tie must have been reached.
+/// From this many calls on, each sort of tie must have been reached, and each
+/// sort of finish often enough.
 const FULL_CALLS: u64 = 1_000_000;
 /// Most calls of a history.
 const STEPS: u32 = 400;
@@ -47,7 +50,8 @@ fn main() {
         rng: Rng::new(options.number("--seed", DEFAULT_SEED)),
         counts: [[0; NUMBERS]; SOURCES.len()],
         sound: 0,
-        ties: Ties::default(),
+        ties: TiedChoices::default(),
+        finishes: FinishTally::default(),
     };
     while test.calls() < calls {
         test.round();
@@ -59,45 +63,11 @@ fn main() {
         println!("FAILED: never reached: {missing:?}");
         exit(1);
     }
-    let gaps = test.ties.gaps();
+    let mut gaps = test.ties.gaps();
+    gaps.extend(test.finishes.gaps(test.calls()));
     if calls >= FULL_CALLS && !gaps.is_empty() {
-        println!("FAILED: never reached: {}", gaps.join(", "));
+        println!("FAILED: {}", gaps.join(", "));
         exit(1);
-    }
-}
-
-/// Accepted choices with a tie that arrival decides against the row number.
-#[derive(Default)]
-struct Ties {
-    reached: u64,
-    /// Those in which a tied job arrived before tick 0.
-    below_zero: u64,
-    /// Those that deadline and row number alone would answer otherwise.
-    shown: u64,
-}
-
-impl Ties {
-    /// Counts an accepted call.
-    fn add(&mut self, before: &Record, request: &Request) {
-        let (Request::Choose(words), Some(session)) = (request, view(before)) else {
-            return;
-        };
-        let rows = tied_rows(&session);
-        let arrivals = rows.iter().filter_map(|row| session.arrival(*row));
-        let is_below_zero = arrivals.min().is_some_and(|first| first < 0);
-        self.reached += u64::from(!rows.is_empty());
-        self.below_zero += u64::from(is_below_zero);
-        self.shown += u64::from(!rows.is_empty() && is_shown(&session, words));
-    }
-
-    fn gaps(&self) -> Vec<&'static str> {
-        let counts = [
-            (self.reached, "a tie that arrival decides"),
-            (self.below_zero, "one with an arrival below 0"),
-            (self.shown, "one that the answer shows"),
-        ];
-        let gaps = counts.into_iter().filter(|(count, _)| *count == 0);
-        gaps.map(|(_, name)| name).collect()
     }
 }
 
@@ -107,7 +77,8 @@ struct Test {
     counts: [[u64; NUMBERS]; SOURCES.len()],
     /// Calls on sound records.
     sound: u64,
-    ties: Ties,
+    ties: TiedChoices,
+    finishes: FinishTally,
 }
 
 impl Test {
@@ -143,7 +114,7 @@ impl Test {
             }
             Source::Near => {
                 let mut record = sound_record(&mut self.rng);
-                if self.rng.chance(7, 8) {
+                if self.rng.chance(3, 4) {
                     displace(&mut self.rng, &mut record);
                 }
                 self.each_call(Source::Near, &record);
@@ -172,7 +143,8 @@ impl Test {
         } else {
             self.admission()
         };
-        let style = Style::random(&mut self.rng);
+        let styles: [fn(&mut Rng) -> Style; 3] = [Style::random, Style::random, Style::giving];
+        let style = self.rng.pick(&styles)(&mut self.rng);
         let mut queue = Vec::new();
         for _ in 0..self.rng.between(1, steps) {
             if !self.step(&mut record, style, &mut queue) {
@@ -243,25 +215,31 @@ impl Test {
         self.counts[source as usize][reply.number as usize] += 1;
         self.sound += u64::from(was_sound);
         if reply.is_accepted() {
-            self.ties.add(&before, request);
+            self.count(&before, request);
         }
         reply
+    }
+
+    /// Counts an accepted call.
+    fn count(&mut self, before: &Record, request: &Request) {
+        match (request, view(before)) {
+            (Request::Choose(words), Some(session)) => self.ties.add(&session, words),
+            (Request::Finish, Some(session)) => self.finishes.add(&session),
+            _ => {}
+        }
     }
 
     fn summary(&self) -> String {
         let sources = SOURCES.map(|(source, name)| format!("{name} {}", self.calls_of(source)));
         let answers = (0..NUMBERS).map(|number| format!("{number}:{}", self.count_of(number)));
         format!(
-            "{} calls agree ({}; {} on sound records); answers {}; arrival decides a tie against \
-            the row number in {} choices, {} of them with an arrival below 0, and {} show it in \
-            the answer",
+            "{} calls agree ({}; {} on sound records); answers {}; {}; {}",
             self.calls(),
             sources.join(", "),
             self.sound,
             answers.collect::<Vec<_>>().join(" "),
-            self.ties.reached,
-            self.ties.below_zero,
-            self.ties.shown
+            self.ties,
+            self.finishes
         )
     }
 }

@@ -4,6 +4,9 @@ use Rattle.calls.specs.Code.{aged-cases}
 use Rattle.calls.proofs.advance.aged_job.Statement.{statement}
 use Rattle.calls.proofs.advance.aged_job.Tie as tie
 
+over-job-requires : tie.Need-over-job-requires
+over-job-requires c κs = search needs
+
 returns : tie.Need-returns
 returns c = search (needs, aged-cases)
 
@@ -29,6 +32,7 @@ pub aged-job-spec : {M : Type 1} → statement M
 aged-job-spec =
     tie.close
     (tie.spec
+    over-job-requires
     returns
     less-requires
     returns-2

@@ -2,12 +2,14 @@
 use Prim.Native.Nat.{_≤_, _-_}
 use mathlib.Core.Path.{_≡_}
 use borrow.Author.Needs.{needs}
-use Rattle.calls.specs.Code.{agedTo, aged-start, aged-next, stepped-is}
+use Rattle.session.specs.Calls.{agedJob}
+use Rattle.session.specs.Jobs.{doneTo, done-start}
+use Rattle.calls.specs.Code.{aged-next, stepped-is}
 use Rattle.calls.proofs.advance.stepped.Statement.{statement}
 use Rattle.calls.proofs.advance.stepped.Tie as tie
 
 abbrev Inv-loop : tie.InvT-loop
-Inv-loop n q₀ rows c left later at k i₀ q i = (i ≤ rows) × (q ≡ agedTo q₀ n i)
+Inv-loop n q₀ rows c left later at k i₀ q i = (i ≤ rows) × (q ≡ doneTo q₀ (agedJob q₀ n) i)
 
 abbrev μ-loop : tie.MeasureT-loop
 μ-loop n q₀ rows c left later at k i₀ q i = rows - i
@@ -28,7 +30,7 @@ element-copy-out-k : tie.Need-element-copy-out-k Inv-loop μ-loop
 element-copy-out-k c = search needs
 
 loop-holds : tie.Need-loop-holds Inv-loop μ-loop
-loop-holds c = search (needs, aged-start)
+loop-holds c = search (needs, done-start)
 
 mul-j : tie.Need-mul-j Inv-loop μ-loop
 mul-j c = search needs

@@ -1,7 +1,8 @@
 -- `calls::finish::finish_sound` meets its contract. Assumes nothing.
+use mathlib.Core.Path.{_≡_}
+use lib.ListN.{length}
 use borrow.Author.Needs.{needs}
-use Rattle.calls.specs.Code.{finish-cases}
-use Rattle.calls.specs.Code.{places}
+use Rattle.calls.specs.Code.{finish-cases, ending-of}
 use Rattle.calls.proofs.finish.finish_sound.Statement.{statement}
 use Rattle.calls.proofs.finish.finish_sound.Tie as tie
 
@@ -17,31 +18,11 @@ refuse-requires-2 c κs = search needs
 returns-2 : tie.Need-returns-2
 returns-2 c = search (needs, finish-cases)
 
-mul-j : tie.Need-mul-j
-mul-j c = search (needs, places)
-
-element-copy-out-j : tie.Need-element-copy-out-j
-element-copy-out-j c = search (needs, places)
-
-mul-t10 : tie.Need-mul-t10
-mul-t10 c = search (needs, places)
-
-element-set-from-q : tie.Need-element-set-from-q
-element-set-from-q c = search (needs, places)
+finished-requires : tie.Need-finished-requires
+finished-requires c κs = let e : length (c .before .before .args .s .words) ≡ 48 = search needs in search (needs, ending-of)
 
 returns-3 : tie.Need-returns-3
 returns-3 c = search (needs, finish-cases)
 
 pub finish-sound-spec : {M : Type 1} → statement M
-finish-sound-spec =
-    tie.close
-    (tie.spec
-    refuse-requires
-    returns
-    refuse-requires-2
-    returns-2
-    mul-j
-    element-copy-out-j
-    mul-t10
-    element-set-from-q
-    returns-3)
+finish-sound-spec = tie.close (tie.spec refuse-requires returns refuse-requires-2 returns-2 finished-requires returns-3)

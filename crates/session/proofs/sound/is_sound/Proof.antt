@@ -5,7 +5,7 @@ use lib.ListN.{length}
 use lib.Seq.{length-take-le}
 use borrow.Author.Needs.{needs}
 use Rattle.session.specs.Reading.{rowsOf}
-use Rattle.session.specs.Soundness.{sound-cases, sound-valued}
+use Rattle.session.specs.Soundness.{sound-cases, sound-checked}
 use Rattle.session.proofs.sound.is_sound.Statement.{statement}
 use Rattle.session.proofs.sound.is_sound.Tie as tie
 
@@ -41,7 +41,7 @@ returns-4 c = search (needs, sound-cases)
 
 jobs-sound-requires : tie.Need-jobs-sound-requires
 unfolding rowsOf
-jobs-sound-requires c κs = search (needs, sound-valued)
+jobs-sound-requires c κs = let e : length (c .before .before .before .before .before .before .before .before .before .args .s .words) ≡ 48 = search needs in search (needs, sound-checked)
 
 choice-sound-requires : tie.Need-choice-sound-requires
 choice-sound-requires c κs = search needs

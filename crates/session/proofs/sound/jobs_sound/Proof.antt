@@ -5,18 +5,18 @@ use mathlib.Core.Path.{_≡_, sym}
 use native.Mathlib.Omega.{arith}
 use lib.Seq.{length-take-le}
 use borrow.Author.Needs.{needs}
-use Rattle.bounded.specs.All.{allTo, all-laws, all-next}
+use Rattle.bounded.specs.All.{allTo, all-laws}
 use Rattle.session.specs.Reading.{rowsOf}
 use Rattle.session.specs.Sound.{soundJob}
-use Rattle.session.specs.Soundness.{job-turn, valued-fit}
+use Rattle.session.specs.Soundness.{job-turn, checked-fit}
 use Rattle.session.proofs.sound.jobs_sound.Statement.{statement}
 use Rattle.session.proofs.sound.jobs_sound.Tie as tie
 
 abbrev Inv-loop : tie.InvT-loop
-Inv-loop s values n clock kind e rows i₀ i = (i ≤ n) × (allTo (soundJob s) i ≡ true)
+Inv-loop s n clock kind e rows i₀ i = (i ≤ n) × (allTo (soundJob s) i ≡ true)
 
 abbrev μ-loop : tie.MeasureT-loop
-μ-loop s values n clock kind e rows i₀ i = n - i
+μ-loop s n clock kind e rows i₀ i = n - i
 
 mul-e : tie.Need-mul-e Inv-loop μ-loop
 mul-e c = search needs
@@ -36,15 +36,9 @@ mul-row-sound c = search needs
 element-copy-out-row-sound : tie.Need-element-copy-out-row-sound Inv-loop μ-loop
 element-copy-out-row-sound c = search needs
 
-mul-row-sound-2 : tie.Need-mul-row-sound-2 Inv-loop μ-loop
-mul-row-sound-2 c = search needs
-
-array-copy-out-row-sound : tie.Need-array-copy-out-row-sound Inv-loop μ-loop
-array-copy-out-row-sound c = search needs
-
 row-sound-requires : tie.Need-row-sound-requires Inv-loop μ-loop
 unfolding rowsOf
-row-sound-requires c κs = search (needs, valued-fit)
+row-sound-requires c κs = search (needs, checked-fit)
 
 add-i : tie.Need-add-i Inv-loop μ-loop
 add-i c = search needs
@@ -54,7 +48,7 @@ loop-less c = search needs
 
 loop-again : tie.Need-loop-again Inv-loop μ-loop
 unfolding rowsOf
-loop-again c = let b = c .before .before .before .before .before in (search needs, all-next _ _ (c .before .row-sound .result) (b .loop .inv .1) (job-turn _ _ _ _ _ (b .before .before .before .pre) (search needs) (search needs) (c .before .row-sound .ensures)) (c .if1 .taken))
+loop-again c = search (needs, job-turn, all-laws)
 
 returns : tie.Need-returns Inv-loop μ-loop
 unfolding rowsOf
@@ -75,8 +69,6 @@ jobs-sound-spec =
     loop-holds
     mul-row-sound
     element-copy-out-row-sound
-    mul-row-sound-2
-    array-copy-out-row-sound
     row-sound-requires
     add-i
     loop-less

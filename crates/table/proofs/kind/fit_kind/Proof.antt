@@ -16,17 +16,11 @@ returns c = search (needs, kind-fit-cases)
 settling-requires : tie.Need-settling-requires
 settling-requires c κs = search needs
 
-unfit-requires : tie.Need-unfit-requires
-unfit-requires c κs = search needs
-
 returns-2 : tie.Need-returns-2
 returns-2 c = search (needs, kind-fit-cases)
 
 search-requires : tie.Need-search-requires
 search-requires c κs = search needs
-
-unfit-requires-2 : tie.Need-unfit-requires-2
-unfit-requires-2 c κs = search needs
 
 returns-3 : tie.Need-returns-3
 returns-3 c = search (needs, kind-fit-cases)
@@ -42,9 +36,7 @@ fit-kind-spec =
     all-budgets-requires
     returns
     settling-requires
-    unfit-requires
     returns-2
     search-requires
-    unfit-requires-2
     returns-3
     returns-4)

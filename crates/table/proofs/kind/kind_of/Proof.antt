@@ -7,9 +7,6 @@ use Rattle.table.proofs.kind.kind_of.Tie as tie
 ill-sized-requires : tie.Need-ill-sized-requires
 ill-sized-requires c κs = search needs
 
-unfit-requires : tie.Need-unfit-requires
-unfit-requires c κs = search needs
-
 returns : tie.Need-returns
 returns c = search (needs, kind-cases)
 
@@ -18,9 +15,6 @@ first-broken-requires c κs = search needs
 
 count-requires : tie.Need-count-requires
 count-requires c κs = search needs
-
-unfit-requires-2 : tie.Need-unfit-requires-2
-unfit-requires-2 c κs = search needs
 
 returns-2 : tie.Need-returns-2
 returns-2 c = search (needs, kind-cases)
@@ -36,11 +30,9 @@ kind-of-spec =
     tie.close
     (tie.spec
     ill-sized-requires
-    unfit-requires
     returns
     first-broken-requires
     count-requires
-    unfit-requires-2
     returns-2
     fit-kind-requires
     returns-3)

@@ -20,7 +20,14 @@ pub const SHAPES: [(Shape, &str); 3] = [
     (Shape::Long, "tight, long"),
 ];
 
-pub const CALLS: [&str; 5] = ["admit", "arrive", "choose", "advance", "finish"];
+pub const CALLS: [&str; 6] = [
+    "admit",
+    "arrive",
+    "choose",
+    "advance",
+    "finish",
+    "finish head",
+];
 
 /// The table of a shape with so many rows; no table of one row is tight.
 pub fn table(shape: Shape, count: u32) -> Option<Vec<Row>> {
@@ -66,8 +73,10 @@ pub fn busy(shape: Shape, count: u32) -> u64 {
 }
 
 /// A call, and a record on which it is accepted: every row has a job, but for
-/// arrive, which brings the last one. For choose no choice is in force; for
-/// advance and finish the last candidate among the jobs is chosen.
+/// arrive, which brings the last one. For choose no choice is in force. For
+/// advance and finish the last candidate among the jobs is chosen, so that this
+/// finish gives nothing; for "finish head" the head is, so that in a loose
+/// session it gives to all others.
 pub struct Case {
     pub request: Request,
     pub record: Record,
@@ -88,8 +97,10 @@ impl Case {
             "admit" => Request::Admit(words),
             "arrive" => Request::Arrive(last),
             "choose" => Request::Choose(draws),
-            "advance" | "finish" => {
-                assert!(record.choose(&draws).is_accepted());
+            "advance" | "finish" | "finish head" => {
+                let is_head = call == "finish head";
+                let draws = if is_head { &[] } else { &draws[..] };
+                assert!(record.choose(draws).is_accepted());
                 if call == "advance" {
                     Request::Advance(1)
                 } else {

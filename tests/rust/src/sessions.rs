@@ -1,0 +1,148 @@
+//! Random sound sessions of any shape, not only of those that calls lead to.
+
+use crate::rng::Rng;
+use crate::session::{Choice, Job, Session, Slot, CLOCK_END, IDLE};
+use crate::table::{admit_rows, Row, HORIZON};
+use crate::tables::{
+    admitted, full_rows, light_rows, small_rows, staggered_rows, urgent_rows, RowMaker,
+};
+
+/// An admitted table whose soundness the model decides quickly.
+pub fn random_table(rng: &mut Rng) -> Vec<Row> {
+    let makers: [RowMaker; 6] = [
+        light_rows,
+        small_rows,
+        small_rows,
+        full_rows,
+        urgent_rows,
+        staggered_rows,
+    ];
+    let make = rng.pick(&makers);
+    admitted(rng, make)
+}
+
+pub fn sound_session(rng: &mut Rng) -> Session {
+    let table = admit_rows(&random_table(rng)).expect("an admitted table");
+    let mut session = Session::new(table);
+    session.clock = match rng.below(5) {
+        0 => edge(rng, 0, 20),
+        1 => edge(rng, 0, HORIZON),
+        2 => CLOCK_END - edge(rng, 0, 20),
+        3 => CLOCK_END - edge(rng, 0, HORIZON),
+        _ => edge(rng, 0, CLOCK_END),
+    };
+    for row in 0..session.rows.len() {
+        session.slots[row] = sound_slot(rng, &session, row);
+    }
+    if rng.chance(1, 2) {
+        tie(rng, &mut session);
+    }
+    if rng.chance(1, 2) {
+        let choice = sound_choice(rng, &session);
+        session.choice = Some(choice);
+        if rng.chance(1, 2) {
+            fill_later_budgets(rng, &mut session, choice);
+        }
+    }
+    assert!(session.is_sound(), "{session:?}");
+    session
+}
+
+/// A number from `low` to `high`, often one of the two.
+fn edge(rng: &mut Rng, low: u64, high: u64) -> u64 {
+    match rng.below(4) {
+        0 => low,
+        1 => high,
+        _ => low + rng.draw() % (high - low + 1),
+    }
+}
+
+fn sound_slot(rng: &mut Rng, session: &Session, row: usize) -> Slot {
+    let Row {
+        period, deadline, ..
+    } = session.rows[row];
+    let clock = session.clock;
+    if rng.chance(1, 3) {
+        let next = edge(rng, 0, clock + u64::from(period));
+        return Slot { next, job: None };
+    }
+    let due = clock + edge(rng, 1, u64::from(deadline));
+    waiting_slot(rng, session, row, due)
+}
+
+/// A row whose job waits for a deadline from clock + 1 to clock + D.
+fn waiting_slot(rng: &mut Rng, session: &Session, row: usize, due: u64) -> Slot {
+    let Row {
+        run,
+        period,
+        deadline,
+    } = session.rows[row];
+    Slot {
+        next: due + u64::from(period - deadline),
+        job: Some(Job {
+            due,
+            left: edge(rng, 1, u64::from(run)),
+            budget: sound_budget(rng, session, row) as i64,
+        }),
+    }
+}
+
+/// Any budget that a job of a row can have; often 0, that of an arrival, or the
+/// most that it can be.
+fn sound_budget(rng: &mut Rng, session: &Session, row: usize) -> u64 {
+    let arrival_budget = session.arrival_budget(row) as u64;
+    let limit = session.budget_limit(row) as u64;
+    match rng.below(3) {
+        0 => edge(rng, 0, arrival_budget),
+        1 => edge(rng, arrival_budget, limit),
+        _ => edge(rng, 0, limit),
+    }
+}
+
+/// Lets jobs of some rows wait for one deadline. How early each arrived is then
+/// up to its D: at a small clock, before tick 0.
+fn tie(rng: &mut Rng, session: &mut Session) {
+    let part = rng.between(1, 4) as usize;
+    let rows = (0..session.rows.len()).filter(|_| rng.chance(part, 4));
+    let rows: Vec<usize> = rows.collect();
+    let deadlines = rows.iter().map(|row| session.rows[*row].deadline);
+    let shortest = deadlines.min().unwrap_or(1);
+    let due = session.clock + edge(rng, 1, u64::from(shortest));
+    for row in rows {
+        session.slots[row] = waiting_slot(rng, session, row, due);
+    }
+}
+
+/// A choice that fits the jobs of a session. There always is one: the head, or
+/// idle if no job waits.
+fn sound_choice(rng: &mut Rng, session: &Session) -> Choice {
+    let longest = |row: u32| {
+        let remaining = session.job(row).map_or(HORIZON, |job| job.left);
+        let budgets = session.earlier(row).map(|job| job.budget as u64);
+        budgets.fold(remaining, u64::min)
+    };
+    let waiting = (0..IDLE).filter(|row| session.job(*row).is_some());
+    let rows = waiting.chain([IDLE]).filter(|row| longest(*row) > 0);
+    let row = rng.pick(&rows.collect::<Vec<u32>>());
+    Choice {
+        row,
+        left: edge(rng, 1, longest(row)),
+    }
+}
+
+/// Brings budgets of later jobs so close to their limits that these cut off
+/// what a finish of the chosen job gives, or leave room for just one tick more.
+fn fill_later_budgets(rng: &mut Rng, session: &mut Session, choice: Choice) {
+    let Some(chosen) = session.job(choice.row).copied() else {
+        return;
+    };
+    for row in 0..session.slots.len() {
+        let limit = session.budget_limit(row) as u64;
+        if let Some(job) = &mut session.slots[row].job {
+            if job.due > chosen.due && rng.chance(1, 2) {
+                let room = edge(rng, 0, chosen.left + 1);
+                job.budget = limit.saturating_sub(room) as i64;
+            }
+        }
+    }
+}
