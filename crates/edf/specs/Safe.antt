@@ -9,8 +9,8 @@ use Rattle.edf.specs.Arrive.{arrive-formed, arrive-slack, arrive-slack-a
 use Rattle.edf.specs.Advance.{run-formed, run-slack, run-all, run-elapsed, idle-formed, idle-slack, idle-all, idle-elapsed}
 use Rattle.edf.specs.Finish.{over-formed, over-all, over-elapsed, finish-slack, start-formed, start-slack, start-elapsed, start-all}
 
--- ---- loose (docs/SPECIFICATION.md §3.1): each job arrives with a budget of at most V, and any waiting job may run,
--- or none, as long as the budgets allow
+-- ---- loose (docs/SPECIFICATION.md §3.1): each job arrives with a budget of at most V, any waiting job may run, or none,
+-- as long as the budgets allow, and a job that is over early may give what it leaves unused to later ones
 
 pub record Safe (τ : TaskSet) (s : State) : Type 0 where
   pub formed : WellFormed τ s

@@ -31,7 +31,7 @@ answerIn lent s c = shown (lending.replyOf (outcomeOf s c) .answer)
 answerIn exported s c = numbersOf (replyOf (outcomeOf s c))
 
 -- the calls with their answers. In every form the session that is returned, or left in the record, is the outcome's, by the
--- contract; so `AlwaysSound` of crates/guarantee/specs/Statement.antt speaks of every form.
+-- contract; so `AlwaysSound` and `CapCutsNothing` of crates/guarantee/specs/Statement.antt speak of every form.
 unfoldable pub eventsIn : Session → List (Form × Call) → List Event
 eventsIn s [] = []
 eventsIn s (c ∷ l) = record { call = c .1; answer = answerIn (c .0) s (c .1) } ∷ eventsIn (outcomeOf s (c .1) .session) l

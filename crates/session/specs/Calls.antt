@@ -135,13 +135,13 @@ advanceIn s n =
     (cond (eqb n 0 || ltb (s .span) n) (refused s (BadStep (s .span)))
     (cond (ltb clockEnd (s .clock + n)) (refused s ClockEnd) (steppedOf s n)))
 
--- ---- finish
+-- ---- finish (unused time reclamation)
 
 -- the ticks that the chosen job leaves unused
 abbrev pub unusedOf : Session → ℕ
 unusedOf s = jobAt s (s .chosen) .left
 
--- the jobs that gain these ticks: in a loose session, each waiting job of strictly later deadline
+-- the jobs that gain these ticks: in a loose session, each waiting job of strictly later deadline than the chosen one
 unfoldable pub gains : Session → ℕ → Bool
 gains s i = eqb (s .kind) 1 && (waits s i && ltb (jobAt s (s .chosen) .due) (jobAt s i .due))
 

@@ -38,7 +38,8 @@ module _ (s : Session) (f : ℕ → Job) where
   pub done-past : (q : Session) (i : ℕ) → q ≡ doneTo i → jobAt q i ≡ jobAt s i
   done-past q i e = rw e (jobs-past i i (le-refl i))
 
-  pub done-next : (q : Session) (i : ℕ) (j : Job) → q ≡ doneTo i → j ≡ f i → changed q (q .clock) (set (q .jobs) i j) (q .chosen) (q .span) ≡ doneTo (i + 1)
+  pub done-next : (q : Session) (i : ℕ) (j : Job) → q ≡ doneTo i → j ≡ f i
+      → changed q (q .clock) (set (q .jobs) i j) (q .chosen) (q .span) ≡ doneTo (i + 1)
   unfolding jobsWith
   done-next q i j e h =
       rw e (ap (λ (l : List Job). changed s (s .clock) l (s .chosen) (s .span)) (put-next f (s .jobs) (jobsWith s f i) i j refl h))

@@ -7,6 +7,7 @@ use std::fmt;
 
 use crate::session::{Job, Session};
 use crate::table::Kind;
+use crate::tally::too_rare;
 use crate::text::{run_with, Command, Machine, Outcome};
 
 /// Of all inputs, one in so many must have a finish that gives.
@@ -167,16 +168,7 @@ impl GiftTally {
             (self.equal, EQUAL, "finish beside an equal deadline"),
             (self.tight, TIGHT, "finish before a later job when tight"),
         ];
-        counts
-            .into_iter()
-            .filter(|(count, one_in, _)| count * one_in < self.inputs)
-            .map(|(count, one_in, what)| {
-                format!(
-                    "{count} of {} inputs {what} (fewer than one in {one_in})",
-                    self.inputs
-                )
-            })
-            .collect()
+        too_rare(self.inputs, &counts)
     }
 }
 

@@ -81,3 +81,15 @@ impl fmt::Display for Tally {
         formatter.write_str(&by_letter.collect::<Vec<_>>().join("; "))
     }
 }
+
+/// Which of these counts are below one in so many of all inputs, in words. Each
+/// has that number and what the counted inputs do.
+pub fn too_rare(inputs: u64, counts: &[(u64, u64, &str)]) -> Vec<String> {
+    let rare = counts
+        .iter()
+        .filter(|(count, one_in, _)| count * one_in < inputs);
+    rare.map(|(count, one_in, what)| {
+        format!("{count} of {inputs} inputs {what} (fewer than one in {one_in})")
+    })
+    .collect()
+}

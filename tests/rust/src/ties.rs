@@ -6,6 +6,7 @@ use std::fmt;
 
 use crate::calls::{candidates, candidates_among, pick};
 use crate::session::Session;
+use crate::tally::too_rare;
 use crate::text::{Command, Machine};
 
 /// Of all inputs, one in so many must reach such a choice.
@@ -95,16 +96,7 @@ impl TieTally {
             (self.reached, REACHING, "have a tie that arrival decides"),
             (self.shown, SHOWING, "show such a tie in an answer"),
         ];
-        counts
-            .into_iter()
-            .filter(|(count, one_in, _)| count * one_in < self.inputs)
-            .map(|(count, one_in, what)| {
-                format!(
-                    "{count} of {} inputs {what} (fewer than one in {one_in})",
-                    self.inputs
-                )
-            })
-            .collect()
+        too_rare(self.inputs, &counts)
     }
 }
 

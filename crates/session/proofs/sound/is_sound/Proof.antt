@@ -41,7 +41,9 @@ returns-4 c = search (needs, sound-cases)
 
 jobs-sound-requires : tie.Need-jobs-sound-requires
 unfolding rowsOf
-jobs-sound-requires c κs = let e : length (c .before .before .before .before .before .before .before .before .before .args .s .words) ≡ 48 = search needs in search (needs, sound-checked)
+jobs-sound-requires c κs =
+    let e : length (c .before .before .before .before .before .before .before .before .before .args .s .words) ≡ 48 = search needs in
+    search (needs, sound-checked)
 
 choice-sound-requires : tie.Need-choice-sound-requires
 choice-sound-requires c κs = search needs
