@@ -45,3 +45,6 @@ module _ {l : List ℕ} {s : Session} (good : Good l s) where
   -- the session's rows are the table's
   pub in-table : (i : ℕ) → i < s .count → i < tasksOf l .rows
   in-table i h = omega (arith, good .count)
+
+  pub in-session : (i : ℕ) → i < tasksOf l .rows → i < s .count
+  in-session i h = omega (arith, good .count)

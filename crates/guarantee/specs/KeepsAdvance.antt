@@ -16,10 +16,10 @@ use Rattle.session.specs.Reading.{idle, clockEnd, jobAt, rowsOf, tasks, waits, 
 use Rattle.session.specs.Calls.{changed, jobsWith, agedJob}
 use Rattle.session.specs.Jobs.{jobs-length}
 use Rattle.session.specs.Facts.{Running, Choice}
-use Rattle.guarantee.specs.Good.{SafeAs, Good, good-places}
+use Rattle.guarantee.specs.Good.{SafeAs, Good, good-places, in-session}
 use Rattle.guarantee.specs.KeepsTable.{most-tight}
 use Rattle.guarantee.specs.KeepsSound.{ahead-waits, ahead-earlier, earlier-ahead, idle-ahead, later-not}
-use Rattle.guarantee.specs.KeepsJobs.{Passed, Worked, rest-same, aged-passed, aged-worked}
+use Rattle.guarantee.specs.KeepsJobs.{Passed, Worked, rest-same, rest-bounds, aged-passed, aged-worked}
 use Rattle.guarantee.specs.KeepsStep.{as-step, Bounds, good-facts, good-bounds, good-changed}
 
 -- ---- n ticks of a choice in force
@@ -27,9 +27,6 @@ use Rattle.guarantee.specs.KeepsStep.{as-step, Bounds, good-facts, good-
 module _ (s : Session) (g : Good (rowsOf s) s) (ch : Choice s) (n : ℕ) (within : n ≤ s .span) (c : ℕ) where
   abbrev after : Session
   after = changed s (s .clock + n) (jobsWith s (agedJob s n) (s .count)) c (s .span - n)
-
-  known : (i : ℕ) → i < tasks s .rows → i < s .count
-  known i l = omega (arith, g .count)
 
   passed : (i : ℕ) → i < s .count → ¬ (i ≡ s .chosen) → Passed s n i (jobAt after i)
   passed = aged-passed s (good-places g) n
@@ -70,16 +67,16 @@ module _ (s : Session) (g : Good (rowsOf s) s) (ch : Choice s) (n : ℕ) (within
       left = w .left;
       budget = λ h. w .budget (ltb-true 0 _ h);
       waits = ap (ltb 0) (w .left);
-      others = λ i l. same i (known i l);
-      earlier = λ i l ne v h. pays i (known i l) ne (earlier-ahead s (s .chosen) i v h);
-      later = λ i l ne v h. passed i (known i l) ne .stays
+      others = λ i l. same i (in-session g i l);
+      earlier = λ i l ne v h. pays i (in-session g i l) ne (earlier-ahead s (s .chosen) i v h);
+      later = λ i l ne v h. passed i (in-session g i l) ne .stays
           (later-not s (s .chosen) i (λ e. omega (arith, r .known, good-facts s g .few)) h);
     }
 
     tight-head : s .kind ≡ 2 → Head (tasks s) (stateOf s) (s .chosen)
     tight-head k i l w =
         dite (decLt (jobAt s i .due) (jobAt s (s .chosen) .due))
-        (λ h. absurd (tight-none k i (known i l) (earlier-ahead s (s .chosen) i w h))) (λ h. omega arith)
+        (λ h. absurd (tight-none k i (in-session g i l) (earlier-ahead s (s .chosen) i w h))) (λ h. omega arith)
 
     run-safe : SafeAs (tasks s) (stateOf after) (s .kind)
     run-safe =
@@ -95,13 +92,13 @@ module _ (s : Session) (g : Good (rowsOf s) s) (ch : Choice s) (n : ℕ) (within
     idle-step : Idle (tasks s) n (stateOf s) (stateOf after)
     idle-step = record {
       clock = refl;
-      others = λ i l. same i (known i l) (other i (known i l));
-      budgets = λ i l w. pays i (known i l) (other i (known i l)) (idle-ahead s (s .chosen) i none w);
+      others = λ i l. same i (in-session g i l) (other i (in-session g i l));
+      budgets = λ i l w. pays i (in-session g i l) (other i (in-session g i l)) (idle-ahead s (s .chosen) i none w);
     }
 
     tight-idle : s .kind ≡ 2 → (i : ℕ) → i < tasks s .rows → waits s i ≡ false
     tight-idle k i l =
-        both (waits s i) (λ w. absurd (tight-none k i (known i l) (idle-ahead s (s .chosen) i none w))) (λ w. w)
+        both (waits s i) (λ w. absurd (tight-none k i (in-session g i l) (idle-ahead s (s .chosen) i none w))) (λ w. w)
 
     idle-safe : SafeAs (tasks s) (stateOf after) (s .kind)
     idle-safe =
@@ -124,16 +121,7 @@ module _ (s : Session) (g : Good (rowsOf s) s) (ch : Choice s) (n : ℕ) (within
             let k = ltb-true 0 (jobAt after i .left) h in
             omega (arith, w .budget k, f .budget (lt-ltb 0 (jobAt s i .left) (omega (arith, w .left))));
       })
-      (λ ne.
-      let p = passed i l ne in
-      let r = p .rest in
-      record {
-        next = omega (arith, r .next, f .next);
-        budget = λ h.
-            let k = ltb-true 0 (jobAt after i .left) h in
-            let b = f .budget (lt-ltb 0 (jobAt s i .left) (omega (arith, r .left))) in
-            both (ahead s (s .chosen) i) (λ a. omega (arith, p .changes a)) (λ a. omega (arith, p .stays a));
-      })
+      (λ ne. rest-bounds (tasks s) s after i (passed i l ne) (omega arith) refl (λ a w. omega (arith, f .budget w)) f)
 
   advance-good : s .clock + n ≤ clockEnd → (s .span - n ≡ 0) ⊎ Choice after → Good (rowsOf s) after
   advance-good end choice =

@@ -6,7 +6,7 @@ use mathlib.Core.Logic.{dite, inl}
 use native.Mathlib.Omega.{arith}
 use native.Mathlib.Decide.{ℕ-discrete}
 use lib.Dec.{ltb, eqb}
-use borrow.Author.Tests.{eq-eqb, eqb-true, ltb-true, lt-ltb}
+use borrow.Author.Tests.{eq-eqb, eqb-true, ltb-true}
 use Rattle.bounded.specs.Tests.{both, and-true}
 use Rattle.edf.specs.Steps.{Over, Finish}
 use Rattle.edf.specs.Finish.{finish-cap}
@@ -17,8 +17,8 @@ use Rattle.session.specs.declared.Session.{Session}
 use Rattle.session.specs.Reading.{jobAt, rowsOf, tasks, waits, mostBudget, stateOf}
 use Rattle.session.specs.Calls.{changed, jobsWith, overJob, unusedOf, gains, givenJob}
 use Rattle.session.specs.Jobs.{jobs-length}
-use Rattle.guarantee.specs.Good.{SafeAs, asLoose, asTight, Good, good-places}
-use Rattle.guarantee.specs.KeepsJobs.{Given, rest-same, given-other, given-over}
+use Rattle.guarantee.specs.Good.{SafeAs, asLoose, asTight, Good, good-places, in-session}
+use Rattle.guarantee.specs.KeepsJobs.{Given, rest-same, rest-bounds, given-other, given-over}
 use Rattle.guarantee.specs.KeepsStep.{as-step, Bounds, good-facts, good-bounds, good-changed}
 
 -- who gains
@@ -32,9 +32,6 @@ gains-means s i e =
 module _ (s : Session) (g : Good (rowsOf s) s) (row : s .chosen < s .count) (waiting : waits s (s .chosen) ≡ true) where
   abbrev after : Session
   after = changed s (s .clock) (jobsWith s (givenJob s) (s .count)) 0 0
-
-  known : (i : ℕ) → i < tasks s .rows → i < s .count
-  known i l = omega (arith, g .count)
 
   is : jobAt after (s .chosen) ≡ overJob (jobAt s (s .chosen))
   is = given-over s (good-places g) row
@@ -50,7 +47,7 @@ module _ (s : Session) (g : Good (rowsOf s) s) (row : s .chosen < s .count) (wai
     clock = refl;
     next = ap (λ (j : Job). j .next) is;
     waits = ap (λ (j : Job). ltb 0 (j .left)) is;
-    others = λ i l ne. rest-same s after i (given i (known i l) ne .rest);
+    others = λ i l ne. rest-same s after i (given i (in-session g i l) ne .rest);
   }
 
   -- no job gains more than the unused ticks, and one of no later deadline nothing
@@ -59,10 +56,10 @@ module _ (s : Session) (g : Good (rowsOf s) s) (row : s .chosen < s .count) (wai
     over = over-step;
     earlier = λ i l ne w h. both (gains s i)
         (λ e. absurd (omega (arith, gains-means s i e .2)))
-        (λ e. omega (arith, given i (known i l) ne .stays e));
+        (λ e. omega (arith, given i (in-session g i l) ne .stays e));
     later = λ i l ne w h. both (gains s i)
-        (λ e. omega (arith, given i (known i l) ne .changes e))
-        (λ e. omega (arith, given i (known i l) ne .stays e));
+        (λ e. omega (arith, given i (in-session g i l) ne .changes e))
+        (λ e. omega (arith, given i (in-session g i l) ne .stays e));
   }
 
   -- ---- soundness
@@ -79,17 +76,8 @@ module _ (s : Session) (g : Good (rowsOf s) s) (row : s .chosen < s .count) (wai
         next = omega (arith, ap (λ (j : Job). j .next) is, c .next);
         budget = λ h. absurd (omega (arith, ltb-true 0 (jobAt after (s .chosen) .left) h, ap (λ (j : Job). j .left) is));
       }))
-      (λ ne.
-      let p = given i l ne in
-      let r = p .rest in
-      record {
-        next = omega (arith, r .next, f .next);
-        budget = λ h. both (gains s i)
-            (λ e. simp (eq-eqb (s .kind) 1 (gains-means s i e .0)) (omega (arith, p .changes e)))
-            (λ e.
-            let k = ltb-true 0 (jobAt after i .left) h in
-            omega (arith, p .stays e, f .budget (lt-ltb 0 (jobAt s i .left) (omega (arith, r .left)))));
-      })
+      (λ ne. rest-bounds (tasks s) s after i (given i l ne) (omega arith) refl
+      (λ e w. simp (eq-eqb (s .kind) 1 (gains-means s i e .0)) (omega arith)) f)
 
   pub good-finish : Good (rowsOf s) after
   good-finish =

@@ -7,12 +7,14 @@ use lib.Dec.{eqb, ltb}
 use lib.ListN.{length, getD}
 use borrow.Author.Tests.{eqb-true, eq-eqb, ne-eqb}
 use Rattle.bounded.specs.Tests.{both}
+use Rattle.edf.specs.Demand.{TaskSet}
 use Rattle.edf.specs.State.{Same}
 use Rattle.session.specs.declared.Job.{Job}
 use Rattle.session.specs.declared.Session.{Session}
-use Rattle.session.specs.Reading.{noJob, jobAt, tasks, waits, ahead, stateOf}
+use Rattle.session.specs.Reading.{noJob, jobAt, tasks, waits, ahead, mostBudget, stateOf}
 use Rattle.session.specs.Calls.{jobsWith, overJob, withBudget, agedJob, unusedOf, gains, givenJob}
 use Rattle.session.specs.Jobs.{jobs-at}
+use Rattle.guarantee.specs.KeepsStep.{Bounds}
 
 -- ---- a row that is not the chosen one
 
@@ -38,6 +40,19 @@ budgeted false x j =
 pub rest-same : (s s′ : Session) (i : ℕ) → Rebudgeted (jobAt s i) (jobAt s′ i) → Same (stateOf s) (stateOf s′) i
 unfolding waits
 rest-same s s′ i r = record { next = r .next; due = r .due; left = r .left; waits = ap (ltb 0) (r .left) }
+
+-- and it stays within its bounds, where x does
+pub rest-bounds : (τ : TaskSet) (s s′ : Session) (i : ℕ) {b : Bool} {x : ℕ} → Budgeted b x (jobAt s i) (jobAt s′ i)
+    → s .clock ≤ s′ .clock → s′ .kind ≡ s .kind → (b ≡ true → waits s i ≡ true → x ≤ mostBudget (s .kind) τ i)
+    → Bounds τ s i → Bounds τ s′ i
+rest-bounds τ s s′ i {b} p up same most f =
+    let r = p .rest in
+    record {
+      next = omega (arith, r .next, f .next);
+      budget = λ w.
+          let v = sym (rest-same s s′ i r .waits) ∙ w in
+          rw same (both b (λ t. omega (arith, p .changes t, most t v)) (λ t. omega (arith, p .stays t, f .budget v)));
+    }
 
 -- after n ticks, a is row i's job: it has lost n of budget if its deadline is before the chosen one's
 abbrev pub Passed : Session → ℕ → ℕ → Job → Type 0
