@@ -8,10 +8,10 @@
  *
  * The host's loop. Advance by the ticks that passed; finish, if the running job
  * is done and its choice has ticks left; arrive, for each job that came on this
- * tick; choose, if no choice is in force; run what was chosen, with a timer for
- * the span.
+ * tick, or arrive_all for several of them; choose, if no choice is in force; run
+ * what was chosen, with a timer for the span.
  *
- * Ownership. The caller owns the record and the words; the library keeps no
+ * Ownership. The caller owns the record, the words and the list; the library keeps no
  * pointer, has no global state, allocates nothing and needs no setup. Of the C
  * library it calls memcpy and memset only.
  *
@@ -25,11 +25,11 @@
  * not be used by two calls at a time.
  *
  * Pointers must not be null, also where n is 0, and must be aligned for their
- * type. They must point to a whole record, or to n words. The words must not
- * overlap the record.
+ * type. They must point to a whole record, to n words, or to a list of n arrivals.
+ * Neither the words nor the list must overlap the record.
  *
  * Contents. A record of any content may be handed in; if it is not sound
- * (section 5.2), the four calls answer 5. What these comments promise holds on
+ * (section 5.2), every call on it answers 5. What these comments promise holds on
  * x86-64 with the System V calling convention, for which the library is built.
  */
 #ifndef SHUFFLE_H
@@ -82,9 +82,9 @@ enum shuffle_number {
     /* No overload found, but no busy length up to the horizon. Values: 1,000,000. */
     SHUFFLE_UNSETTLED = 4,
 
-    /* Refusals of the four calls; the record stays as it was. */
+    /* Refusals of the calls on a record, which stays as it was. */
 
-    /* Any of the four calls: the record is not sound. Values: none. */
+    /* Any of them: the record is not sound. Values: none. */
     SHUFFLE_UNSOUND = 5,
     /* Arrive: the row is not in the table. Values: row. */
     SHUFFLE_NO_ROW = 6,
@@ -134,6 +134,14 @@ typedef struct shuffle_reply {
     uint64_t second;
 } shuffle_reply;
 
+/* A row whose job arrives, and the place for the answer: its number and two values. */
+typedef struct shuffle_arrival {
+    uint64_t row;    /* never written */
+    uint64_t number; /* one of enum shuffle_number */
+    uint64_t first;
+    uint64_t second;
+} shuffle_arrival;
+
 /*
  * Admits a table of n words, three to a row: C, T, D. The record need not hold
  * anything before. Accepted: it becomes the fresh session. Refused (1 to 4): it
@@ -143,6 +151,16 @@ shuffle_reply shuffle_admit(shuffle_session *session, const uint32_t *words, siz
 
 /* A job of the row arrives now. A choice in force is dropped. Refusals: 5, 6, 7. */
 shuffle_reply shuffle_arrive(shuffle_session *session, uint64_t row);
+
+/*
+ * A job of each row of a list arrives now: n records, handled in list order, as
+ * by shuffle_arrive one after another. Each record gets its answer, whatever its
+ * place held. A refused one, as of a row that came twice, does not stop those
+ * after it. The record of the session is checked once for all. A choice in force
+ * is dropped if some row's job is accepted; so an empty list changes nothing.
+ * Refusals, in the records: 5, 6, 7.
+ */
+void shuffle_arrive_all(shuffle_session *session, shuffle_arrival *list, size_t n);
 
 /*
  * Chooses what runs next, by n random words, of which the first two at most are
@@ -203,6 +221,11 @@ SHUFFLE_CHECK(offsetof(shuffle_reply, number) == 0);
 SHUFFLE_CHECK(offsetof(shuffle_reply, used) == 8);
 SHUFFLE_CHECK(offsetof(shuffle_reply, first) == 16);
 SHUFFLE_CHECK(offsetof(shuffle_reply, second) == 24);
+SHUFFLE_CHECK(sizeof(shuffle_arrival) == 32);
+SHUFFLE_CHECK(offsetof(shuffle_arrival, row) == 0);
+SHUFFLE_CHECK(offsetof(shuffle_arrival, number) == 8);
+SHUFFLE_CHECK(offsetof(shuffle_arrival, first) == 16);
+SHUFFLE_CHECK(offsetof(shuffle_arrival, second) == 24);
 SHUFFLE_CHECK(sizeof(size_t) == 8);
 #undef SHUFFLE_CHECK
 

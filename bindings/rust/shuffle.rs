@@ -34,7 +34,7 @@ pub mod number {
     pub const OVERLOAD: u64 = 3;
     /// Admit: no overload found, but no busy length up to the horizon. Values: 1,000,000.
     pub const UNSETTLED: u64 = 4;
-    /// Any of the four calls: the session is not sound.
+    /// Any call on a session: it is not sound.
     pub const UNSOUND: u64 = 5;
     /// Arrive: the row is not in the table. Values: row.
     pub const NO_ROW: u64 = 6;
@@ -66,8 +66,8 @@ pub struct Job {
     pub budget: u64,
 }
 
-/// The record of a session. Every content is allowed: on a session that is not sound the four calls
-/// answer 5 and leave it as it is.
+/// The record of a session. Every content is allowed: on a session that is not sound every call
+/// answers 5 and leaves it as it is.
 ///
 /// Not looked at by the calls: words and jobs past the last row, due and budget of a row whose left
 /// is 0, and chosen if span is 0. In a session that the library made these are 0.
@@ -105,6 +105,20 @@ pub struct Reply {
     pub second: u64,
 }
 
+/// A row whose job arrives, and the place for the answer: its number and two values (see `number`).
+#[repr(C)]
+#[derive(Clone, Copy, Debug, Default, PartialEq, Eq)]
+pub struct Arrival {
+    /// The row. It is never written.
+    pub row: u64,
+    /// One of the numbers in `number`.
+    pub number: u64,
+    /// The first value.
+    pub first: u64,
+    /// The second value.
+    pub second: u64,
+}
+
 // The library reads and writes these places. No byte of a record is padding.
 const _: () = {
     assert!(size_of::<Job>() == 32);
@@ -125,6 +139,11 @@ const _: () = {
     assert!(offset_of!(Reply, used) == 8);
     assert!(offset_of!(Reply, first) == 16);
     assert!(offset_of!(Reply, second) == 24);
+    assert!(size_of::<Arrival>() == 32);
+    assert!(offset_of!(Arrival, row) == 0);
+    assert!(offset_of!(Arrival, number) == 8);
+    assert!(offset_of!(Arrival, first) == 16);
+    assert!(offset_of!(Arrival, second) == 24);
     assert!(size_of::<usize>() == 8);
 };
 
@@ -133,6 +152,7 @@ const _: () = {
 unsafe extern "C" {
     fn shuffle_admit(session: &mut Session, words: *const u32, n: usize) -> Reply;
     safe fn shuffle_arrive(session: &mut Session, row: u64) -> Reply;
+    fn shuffle_arrive_all(session: &mut Session, list: *mut Arrival, n: usize);
     fn shuffle_choose(session: &mut Session, words: *const u32, n: usize) -> Reply;
     safe fn shuffle_advance(session: &mut Session, n: u64) -> Reply;
     safe fn shuffle_finish(session: &mut Session) -> Reply;
@@ -142,6 +162,23 @@ unsafe extern "C" {
 
 impl Reply {
     /// Whether the call was accepted.
+    pub fn is_accepted(&self) -> bool {
+        self.number == number::ACCEPTED
+    }
+}
+
+impl Arrival {
+    /// A record for a row, whose answer is not there yet.
+    pub const fn of(row: u64) -> Arrival {
+        Arrival {
+            row,
+            number: 0,
+            first: 0,
+            second: 0,
+        }
+    }
+
+    /// Whether the row's job was accepted.
     pub fn is_accepted(&self) -> bool {
         self.number == number::ACCEPTED
     }
@@ -184,6 +221,14 @@ impl Session {
         shuffle_arrive(self, row)
     }
 
+    /// A job of each record's row arrives now, in list order, as by `arrive` one after another; each
+    /// record gets its answer, whatever its place held. A refused record does not stop those after
+    /// it. Refusals, in the records: 5, 6, 7.
+    pub fn arrive_all(&mut self, list: &mut [Arrival]) {
+        // SAFETY: as for `replace`; the slice is borrowed for change, so nothing else reads it.
+        unsafe { shuffle_arrive_all(self, list.as_mut_ptr(), list.len()) }
+    }
+
     /// Chooses what runs next, by random words, of which the first two at most are looked at.
     /// Without words the earliest deadline runs; of equal deadlines the job that arrived first, and
     /// of those of one tick the lowest row. If no job waits: idle, for 1,000,000 ticks.
@@ -208,7 +253,7 @@ impl Session {
         shuffle_finish(self)
     }
 
-    /// Whether the session is sound, so that the four calls do not answer 5.
+    /// Whether the session is sound, so that no call on it answers 5.
     pub fn is_sound(&self) -> bool {
         shuffle_is_sound(self) == 1
     }

@@ -1,11 +1,12 @@
 /*
  * A host in C: it drives a plant of four tasks for some simulated minutes and
- * prints the schedule. A tick is a millisecond.
+ * prints the schedule. A tick is a millisecond. Before each shift the tasks pause,
+ * and at the shift change all of them start on one tick.
  *
  *   cc -std=c11 -I include examples/hosts/plant.c target/staticlib/libhost.a
  *
  * Argument: the ticks to simulate, 180,000 if none is given. Status 1 if a job
- * was late or a call was refused that should not be. plant.rs is the same host
+ * was late or something was refused that should not be. plant.rs is the same host
  * in Rust and prints the same.
  */
 #include <inttypes.h>
@@ -14,7 +15,7 @@
 
 #include "shuffle.h"
 
-enum { TASKS = 4, STRIP = 300, STRIP_LINE = 100 };
+enum { TASKS = 4, SHIFT = 60000, PAUSE = 200, STRIP = 300, STRIP_LINE = 100 };
 
 static const uint32_t table[3 * TASKS] = {
     /* C, T, D */
@@ -43,7 +44,7 @@ struct plant {
     uint64_t span; /* ticks left of the choice; 0: none is in force */
     uint64_t random;
     uint64_t jobs, early, late;
-    uint64_t calls, refused, faults;
+    uint64_t calls, most, refused, faults;
     char strip[TASKS + 1][STRIP];
 };
 
@@ -61,24 +62,36 @@ static uint64_t least(uint64_t a, uint64_t b)
     return a < b ? a : b;
 }
 
-/* Counts a call; any other answer than the expected one is a fault. */
-static void count(struct plant *p, shuffle_reply reply, uint64_t expected)
+/* Any other answer than the expected one is a fault. */
+static void expect(struct plant *p, uint64_t number, uint64_t first, uint64_t second, uint64_t expected)
 {
-    p->calls += 1;
-    p->refused += reply.number != SHUFFLE_ACCEPTED;
-    if (reply.number != expected) {
+    p->refused += number != SHUFFLE_ACCEPTED;
+    if (number != expected) {
         p->faults += 1;
-        fprintf(stderr, "tick %" PRIu64 ": answer %" PRIu64 " (%" PRIu64 ", %" PRIu64 ")\n", p->clock, reply.number,
-                reply.first, reply.second);
+        fprintf(stderr, "tick %" PRIu64 ": answer %" PRIu64 " (%" PRIu64 ", %" PRIu64 ")\n", p->clock, number, first,
+                second);
     }
 }
 
-/* A job arrives: it often needs all of C, and the next one comes T later or more. */
-static void arrive(struct plant *p, uint64_t row)
+/* Counts a call. */
+static void count(struct plant *p, shuffle_reply reply, uint64_t expected)
+{
+    p->calls += 1;
+    expect(p, reply.number, reply.first, reply.second, expected);
+}
+
+/* A task that would start in the pause before a shift starts with the shift. */
+static uint64_t start_of(uint64_t tick)
+{
+    const uint64_t change = (tick / SHIFT + 1) * SHIFT;
+    return change - tick < PAUSE ? change : tick;
+}
+
+/* A job has arrived: it often needs all of C, and the next one comes T later or more. */
+static void arrived(struct plant *p, uint64_t row)
 {
     struct task *t = &p->tasks[row];
     const uint32_t c = table[3 * row], least_gap = table[3 * row + 1], d = table[3 * row + 2];
-    count(p, shuffle_arrive(&p->session, row), SHUFFLE_ACCEPTED);
     p->span = 0;
     p->jobs += 1;
     p->late += t->need != 0;
@@ -90,20 +103,40 @@ static void arrive(struct plant *p, uint64_t row)
     if (draw(p) % 3 == 0) {
         t->arrival += draw(p) % least_gap;
     }
+    t->arrival = start_of(t->arrival);
     if (p->clock < STRIP) {
         p->strip[row][p->clock] = '|';
     }
 }
 
-/* Arrivals that are due now. One that is reported a second time is too early, and refused. */
+/*
+ * All arrivals of this tick in one call, at a shift change those of all tasks. One that is reported a second time is too
+ * early, and refused; the others of the list are handled all the same.
+ */
 static void arrivals(struct plant *p)
 {
+    shuffle_arrival list[TASKS];
+    size_t n = 0;
     for (uint64_t row = 0; row < TASKS; row += 1) {
-        if (p->tasks[row].arrival == p->clock) {
-            arrive(p, row);
-        } else if (p->tasks[row].bounce == p->clock) {
-            count(p, shuffle_arrive(&p->session, row), SHUFFLE_TOO_EARLY);
-            p->tasks[row].bounce = 0;
+        if (p->tasks[row].arrival == p->clock || p->tasks[row].bounce == p->clock) {
+            list[n].row = row;
+            n += 1;
+        }
+    }
+    if (n == 0) {
+        return;
+    }
+    shuffle_arrive_all(&p->session, list, n);
+    p->calls += 1;
+    p->most = p->most < n ? n : p->most;
+    for (size_t i = 0; i < n; i += 1) {
+        struct task *t = &p->tasks[list[i].row];
+        const int is_new = t->arrival == p->clock;
+        expect(p, list[i].number, list[i].first, list[i].second, is_new ? SHUFFLE_ACCEPTED : SHUFFLE_TOO_EARLY);
+        if (is_new) {
+            arrived(p, list[i].row);
+        } else {
+            t->bounce = 0;
         }
     }
 }
@@ -234,8 +267,9 @@ static void print_summary(const struct plant *p)
     printf("ticks %" PRIu64 "; jobs %" PRIu64 ", finished early %" PRIu64 ", waiting at the end %" PRIu64
            ", late %" PRIu64 "\n",
            p->clock, p->jobs, p->early, waiting, p->late);
-    printf("calls %" PRIu64 ", refused %" PRIu64 ", answered otherwise than expected %" PRIu64 "\n", p->calls,
-           p->refused, p->faults);
+    printf("calls %" PRIu64 ", up to %" PRIu64 " arrivals in one; refused %" PRIu64
+           ", answered otherwise than expected %" PRIu64 "\n",
+           p->calls, p->most, p->refused, p->faults);
 }
 
 static void start(struct plant *p)

@@ -1,10 +1,11 @@
 //! A host in Rust: it drives a plant of four tasks for some simulated minutes and prints the
-//! schedule. A tick is a millisecond.
+//! schedule. A tick is a millisecond. Before each shift the tasks pause, and at the shift change all
+//! of them start on one tick.
 //!
 //!     rustc --edition 2021 -L native=target/staticlib -l static=host examples/hosts/plant.rs
 //!
-//! Argument: the ticks to simulate, 180,000 if none is given. Status 1 if a job was late or a call
-//! was refused that should not be. plant.c is the same host in C and prints the same.
+//! Argument: the ticks to simulate, 180,000 if none is given. Status 1 if a job was late or
+//! something was refused that should not be. plant.c is the same host in C and prints the same.
 
 // A host need not use all of the binding.
 #[allow(dead_code)]
@@ -13,9 +14,11 @@ mod shuffle;
 
 use std::process::exit;
 
-use shuffle::{number, Reply, Session, IDLE};
+use shuffle::{number, Arrival, Reply, Session, IDLE};
 
 const TASKS: usize = 4;
+const SHIFT: u64 = 60_000;
+const PAUSE: u64 = 200;
 const STRIP: usize = 300;
 const STRIP_LINE: usize = 100;
 
@@ -51,6 +54,7 @@ struct Plant {
     early: u64,
     late: u64,
     calls: u64,
+    most: u64,
     refused: u64,
     faults: u64,
     strip: [[u8; STRIP]; TASKS + 1],
@@ -70,6 +74,7 @@ impl Plant {
             early: 0,
             late: 0,
             calls: 0,
+            most: 0,
             refused: 0,
             faults: 0,
             strip: [[b' '; STRIP]; TASKS + 1],
@@ -87,24 +92,26 @@ impl Plant {
         z ^ (z >> 31)
     }
 
-    /// Counts a call; any other answer than the expected one is a fault.
-    fn count(&mut self, reply: Reply, expected: u64) {
-        self.calls += 1;
-        self.refused += u64::from(!reply.is_accepted());
-        if reply.number != expected {
+    /// Any other answer than the expected one is a fault.
+    fn expect(&mut self, answer: [u64; 3], expected: u64) {
+        let [number, first, second] = answer;
+        self.refused += u64::from(number != number::ACCEPTED);
+        if number != expected {
             self.faults += 1;
-            eprintln!(
-                "tick {}: answer {} ({}, {})",
-                self.clock, reply.number, reply.first, reply.second
-            );
+            let clock = self.clock;
+            eprintln!("tick {clock}: answer {number} ({first}, {second})");
         }
     }
 
-    /// A job arrives: it often needs all of C, and the next one comes T later or more.
-    fn arrive(&mut self, row: usize) {
+    /// Counts a call.
+    fn count(&mut self, reply: Reply, expected: u64) {
+        self.calls += 1;
+        self.expect([reply.number, reply.first, reply.second], expected);
+    }
+
+    /// A job has arrived: it often needs all of C, and the next one comes T later or more.
+    fn arrived(&mut self, row: usize) {
         let [c, least_gap, d] = TABLE[row].map(u64::from);
-        let reply = self.session.arrive(row as u64);
-        self.count(reply, number::ACCEPTED);
         self.span = 0;
         self.jobs += 1;
         self.late += u64::from(self.tasks[row].need != 0);
@@ -122,20 +129,37 @@ impl Plant {
         if self.draw() % 3 == 0 {
             task.arrival += self.draw() % least_gap;
         }
+        task.arrival = start_of(task.arrival);
         self.tasks[row] = task;
         if let Some(place) = self.strip[row].get_mut(clock as usize) {
             *place = b'|';
         }
     }
 
-    /// Arrivals that are due now. One that is reported a second time is too early, and refused.
+    /// All arrivals of this tick in one call, at a shift change those of all tasks. One that is
+    /// reported a second time is too early, and refused; the others of the list are handled all the
+    /// same.
     fn arrivals(&mut self) {
-        for row in 0..TASKS {
-            if self.tasks[row].arrival == self.clock {
-                self.arrive(row);
-            } else if self.tasks[row].bounce == self.clock {
-                let reply = self.session.arrive(row as u64);
-                self.count(reply, number::TOO_EARLY);
+        let clock = self.clock;
+        let tasks = (0..).zip(&self.tasks);
+        let mut list: Vec<Arrival> = tasks
+            .filter(|(_, task)| task.arrival == clock || task.bounce == clock)
+            .map(|(row, _)| Arrival::of(row))
+            .collect();
+        if list.is_empty() {
+            return;
+        }
+        self.session.arrive_all(&mut list);
+        self.calls += 1;
+        self.most = self.most.max(list.len() as u64);
+        for record in list {
+            let row = record.row as usize;
+            let answer = [record.number, record.first, record.second];
+            if self.tasks[row].arrival == clock {
+                self.expect(answer, number::ACCEPTED);
+                self.arrived(row);
+            } else {
+                self.expect(answer, number::TOO_EARLY);
                 self.tasks[row].bounce = 0;
             }
         }
@@ -255,9 +279,19 @@ impl Plant {
             self.clock, self.jobs, self.early, self.late
         );
         println!(
-            "calls {}, refused {}, answered otherwise than expected {}",
-            self.calls, self.refused, self.faults
+            "calls {}, up to {} arrivals in one; refused {}, answered otherwise than expected {}",
+            self.calls, self.most, self.refused, self.faults
         );
+    }
+}
+
+/// A task that would start in the pause before a shift starts with the shift.
+fn start_of(tick: u64) -> u64 {
+    let change = (tick / SHIFT + 1) * SHIFT;
+    if change - tick < PAUSE {
+        change
+    } else {
+        tick
     }
 }
 

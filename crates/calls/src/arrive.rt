@@ -3,7 +3,8 @@ ghost use mathlib.Core.Path.{_≡_};
 ghost use mathlib.Core.Bool.{true};
 ghost use Prim.Native.Nat.{_≤_, _<_};
 ghost use Rattle.table.specs.Rows.{tasksOf, Fit};
-ghost use Rattle.session.specs.Reading.{clockEnd, startBy};
+ghost use Rattle.table.specs.Inverse.{Inverses};
+ghost use Rattle.session.specs.Reading.{clockEnd, tasks, startBy};
 ghost use Rattle.session.specs.Sound.{sound};
 ghost use Rattle.session.specs.Calls.{arrivedBy, arriveIn, arriveOf};
 use session::Answer;
@@ -12,6 +13,7 @@ use session::Outcome;
 use session::Session;
 use session::refuse;
 use session::sound::is_sound;
+use table::inverse::inverses_of;
 
 // A row's starting budget: V in a loose session, 0 in a tight one.
 fn start_budget(kind: u64, v: i64) -> u64
@@ -26,13 +28,13 @@ fn start_budget(kind: u64, v: i64) -> u64
     0
 }
 
-// The job that arrives now in row i of a table.
-fn arriving(rows: &[u32], i: usize, clock: u64, kind: u64) -> Job
-    requires { ⌜ Fit (tasksOf (now rows)) × (i < tasksOf (now rows) .rows) × (clock ≤ clockEnd) ⌝ }
+// The job that arrives now in row i of a table, by the inverses of its periods.
+fn arriving_by(rows: &[u32], inverses: &[u64; 16], i: usize, clock: u64, kind: u64) -> Job
+    requires { ⌜ Fit (tasksOf (now rows)) × Inverses (tasksOf (now rows)) (now inverses) × (i < tasksOf (now rows) .rows) × (clock ≤ clockEnd) ⌝ }
     ensures { λ r. ⌜ r ≡ arrivedBy (tasksOf (now (rows .entry))) i clock kind ⌝ }
 {
     let k = table::rows::fit_row(rows, i);
-    let v = table::budgets::budget(rows, i);
+    let v = table::budgets::value_of(rows, inverses, i);
     let start = start_budget(kind, v);
     Job {
         next: clock + k.period,
@@ -40,6 +42,14 @@ fn arriving(rows: &[u32], i: usize, clock: u64, kind: u64) -> Job
         left: k.run,
         budget: start,
     }
+}
+
+fn arriving(rows: &[u32], i: usize, clock: u64, kind: u64) -> Job
+    requires { ⌜ Fit (tasksOf (now rows)) × (i < tasksOf (now rows) .rows) × (clock ≤ clockEnd) ⌝ }
+    ensures { λ r. ⌜ r ≡ arrivedBy (tasksOf (now (rows .entry))) i clock kind ⌝ }
+{
+    let inverses = inverses_of(rows);
+    arriving_by(rows, &inverses, i, clock, kind)
 }
 
 // `arrive` without its check, for callers who can prove that the session is sound.
@@ -69,6 +79,45 @@ pub fn arrive_sound(s: Session, row: u64) -> Outcome
         answer: Answer::Arrived { row, due: k.due },
         used: 0,
         session: q,
+    }
+}
+
+// The inverses of the periods of a sound session's table, which all its arrivals can share: a division for each row.
+pub fn shared_inverses(s: Session) -> [u64; 16]
+    requires { ⌜ sound s ≡ true ⌝ }
+    ensures { λ r. ⌜ Inverses (tasks s) r ⌝ }
+{
+    let words = s.words;
+    let e = 3 * (s.count as usize);
+    inverses_of(&words[..e])
+}
+
+// `arrive_sound` with these inverses. It is a second body, since the compiler puts a function into its only caller: with one
+// body for both, a single arrive takes a third longer (docs/PERFORMANCE.md).
+pub fn arrive_by(s: Session, inverses: &[u64; 16], row: u64) -> Outcome
+    requires { ⌜ (sound s ≡ true) × Inverses (tasks s) (now inverses) ⌝ }
+    ensures { λ r. ⌜ r ≡ arriveIn s row ⌝ }
+{
+    let count = s.count;
+    if count <= row {
+        return refuse(s, Answer::NoRow(row));
+    }
+    let i = row as usize;
+    let mut t = s;
+    let j = t.jobs[i];
+    if s.clock < j.next {
+        return refuse(s, Answer::TooEarly { row, next: j.next });
+    }
+    let words = s.words;
+    let e = 3 * (count as usize);
+    let k = arriving_by(&words[..e], inverses, i, s.clock, s.kind);
+    t.jobs[i] = k;
+    t.chosen = 0;
+    t.span = 0;
+    Outcome {
+        answer: Answer::Arrived { row, due: k.due },
+        used: 0,
+        session: t,
     }
 }
 

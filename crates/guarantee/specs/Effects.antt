@@ -19,7 +19,7 @@ use Rattle.session.specs.Calls.{shown, refused, changed, arrivedJob, arriveIn, 
 use Rattle.session.specs.Facts.{Running, Choice}
 use Rattle.guarantee.specs.Ledger.{Call, arrive, choose, advance, finish}
 use Rattle.guarantee.specs.Statement.{outcomeOf}
-use Rattle.guarantee.specs.KeepsSound.{in-force, running}
+use Rattle.guarantee.specs.KeepsChoice.{in-force, running}
 
 -- the call on s leaves the second session and gives the answer; refusal 5 is for sessions that are not sound
 pub data Effect (s : Session) : Call → Session → Answer → Type 0 where

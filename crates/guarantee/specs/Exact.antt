@@ -23,7 +23,7 @@ use Rattle.session.specs.First.{is-head, head-waits}
 use Rattle.session.specs.Choose.{draw, drawn, pickOf, room}
 use Rattle.session.specs.Facts.{Facts, facts-deadline}
 use Rattle.guarantee.specs.KeepsTable.{most-le}
-use Rattle.guarantee.specs.KeepsSound.{ahead-waits, idle-ahead}
+use Rattle.guarantee.specs.KeepsChoice.{ahead-waits, idle-ahead}
 use Rattle.guarantee.specs.KeepsPick.{pick-may}
 use Rattle.guarantee.specs.Room.{Lesser, room-lesser, may-room}
 

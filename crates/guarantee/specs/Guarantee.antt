@@ -1,35 +1,68 @@
 -- The guarantee (docs/SPECIFICATION.md §6.2): the theorems of Statement.antt but those in Keeps.antt, Arrived.antt and
 -- Tight.antt. Assumes nothing.
 use Prim.Native.Nat.{ℕ}
-use mathlib.Core.Path.{_≡_}
-use mathlib.Core.List.{List, [], _∷_}
+use mathlib.Core.Path.{_≡_, refl, ap}
+use mathlib.Core.List.{List, [], _∷_, _++_, map}
+use Rattle.edf.specs.Demand.{TaskSet}
 use Rattle.table.specs.Rows.{tasksOf}
 use Rattle.table.specs.Verdict.{answerOf}
 use Rattle.table.specs.Theorems as tables
 use Rattle.session.specs.declared.Session.{Session}
+use Rattle.session.specs.declared.Arrival.{Arrival}
+use Rattle.session.specs.Calls.{shown, arriveOf}
+use Rattle.session.specs.Batch.{afterAll, answeredAll}
 use Rattle.session.specs.Admit.{sessionOf}
-use Rattle.guarantee.specs.Ledger.{Call, Ledger, empty, ledgerFrom, ledgerOf}
-use Rattle.guarantee.specs.Statement.{outcomeOf, sessionAfter, eventsOf, NoJobLate, OverloadDeserved, Deterministic, DeterministicAfter}
+use Rattle.guarantee.specs.Ledger.{arrive, Event, Ledger, empty, kept, ledgerFrom, ledgerOf}
+use Rattle.guarantee.specs.Statement.{HostCall, single, batch, sessionBy, recordEvent, eventsBy, sessionAfter, eventsOf, NoJobLate, OneByOne, OverloadDeserved, Deterministic, DeterministicAfter}
 use Rattle.guarantee.specs.Good.{Good}
 use Rattle.guarantee.specs.KeepsFresh.{good-fresh}
-use Rattle.guarantee.specs.Keeps.{good-call, good-reached}
+use Rattle.guarantee.specs.Keeps.{good-call, good-by, good-reached}
 use Rattle.guarantee.specs.Ties.{Tied, tied-fresh, tied-call, tied-timely}
 
--- the ledger follows the session over a list of calls
-tied-after : (l : List ℕ) (g : Ledger) (s : Session) → Good l s → Tied l g s → (calls : List Call)
+-- the ledger of two lists of events is kept from the second after the first
+ledger-more : (τ : TaskSet) (g : Ledger) (x y : List Event) → ledgerFrom τ g (x ++ y) ≡ ledgerFrom τ (ledgerFrom τ g x) y
+unfolding ledgerFrom
+ledger-more τ g [] y = refl
+ledger-more τ g (e ∷ x) y = ledger-more τ (kept τ g e) x y
+
+-- the ledger follows the session over a batch,
+tied-all : (l : List ℕ) (g : Ledger) (s : Session) → Good l s → Tied l g s → (rs : List Arrival)
+    → Tied l (ledgerFrom (tasksOf l) g (map recordEvent (answeredAll s rs))) (afterAll s rs)
+unfolding ledgerFrom afterAll answeredAll
+tied-all l g s good tied [] = tied
+tied-all l g s good tied (a ∷ rs) =
+    tied-all l _ (arriveOf s (a .row) .session) (good-call l s good (arrive (a .row))) (tied-call l g s good tied (arrive (a .row))) rs
+
+tied-by : (l : List ℕ) (g : Ledger) (s : Session) → Good l s → Tied l g s → (c : HostCall)
+    → Tied l (ledgerFrom (tasksOf l) g (eventsBy s c)) (sessionBy s c)
+unfolding ledgerFrom
+tied-by l g s good tied (single c) = tied-call l g s good tied c
+tied-by l g s good tied (batch rs) = tied-all l g s good tied rs
+
+-- and over a list of calls
+tied-after : (l : List ℕ) (g : Ledger) (s : Session) → Good l s → Tied l g s → (calls : List HostCall)
     → Tied l (ledgerFrom (tasksOf l) g (eventsOf s calls)) (sessionAfter s calls)
 unfolding ledgerFrom eventsOf sessionAfter
 tied-after l g s good tied [] = tied
 tied-after l g s good tied (c ∷ calls) =
-    tied-after l _ (outcomeOf s c .session) (good-call l s good c) (tied-call l g s good tied c) calls
+    rw (ledger-more (tasksOf l) g (eventsBy s c) (eventsOf (sessionBy s c) calls))
+    (tied-after l _ (sessionBy s c) (good-by l s good c) (tied-by l g s good tied c) calls)
 
-pub tied-reached : (l : List ℕ) (t : ℕ) → answerOf l t .number ≡ 0 → (calls : List Call)
+pub tied-reached : (l : List ℕ) (t : ℕ) → answerOf l t .number ≡ 0 → (calls : List HostCall)
     → Tied l (ledgerOf (tasksOf l) (eventsOf (sessionOf l t) calls)) (sessionAfter (sessionOf l t) calls)
 tied-reached l t e calls = tied-after l empty (sessionOf l t) (good-fresh l t e) (tied-fresh l t e) calls
 
 -- NO JOB IS LATE
 pub no-job-late : NoJobLate
 no-job-late l t e calls = tied-timely l _ _ (good-reached l t e calls) (tied-reached l t e calls)
+
+-- ONE BY ONE
+pub one-by-one : OneByOne
+unfolding afterAll answeredAll sessionAfter eventsOf
+one-by-one s [] = (refl, refl)
+one-by-one s (a ∷ l) =
+    let r = one-by-one (arriveOf s (a .row) .session) l in
+    (r .0, ap (λ (x : List Event). record { call = arrive (a .row); answer = shown (arriveOf s (a .row) .answer) } ∷ x) (r .1))
 
 pub overload-deserved : OverloadDeserved
 overload-deserved = tables.overload-deserved

@@ -1,20 +1,22 @@
 -- Every session that a list of calls leads to is sound, so no call answers 5, and no finish is cut (docs/SPECIFICATION.md
 -- §6.2); a refused table's record is not sound, so every call answers 5. Assumes nothing.
 use Prim.Native.Nat.{ℕ, _<_}
-use mathlib.Core.Path.{_≡_, refl, sym, subst}
+use mathlib.Core.Path.{_≡_, refl, sym, ap, subst}
 use mathlib.Core.Bool.{true, false}
-use mathlib.Core.List.{List, [], _∷_}
+use mathlib.Core.List.{List, [], _∷_, map}
 use native.Mathlib.Omega.{arith}
 use borrow.Author.Tests.{ne-eqb}
 use Rattle.table.specs.Verdict.{badLength, answerOf}
 use Rattle.session.specs.declared.Session.{Session}
 use Rattle.session.specs.declared.Answer.{Answer}
+use Rattle.session.specs.declared.Arrival.{Arrival}
 use Rattle.session.specs.Reading.{rowsOf}
 use Rattle.session.specs.Sound.{soundRows, sound}
-use Rattle.session.specs.Calls.{shown, gains}
+use Rattle.session.specs.Calls.{shown, three, gains, arriveOf}
+use Rattle.session.specs.Batch.{answered, afterAll, answeredAll}
 use Rattle.session.specs.Admit.{noSession, sessionOf}
-use Rattle.guarantee.specs.Ledger.{Call, finish}
-use Rattle.guarantee.specs.Statement.{outcomeOf, sessionAfter, AlwaysSound, NeverFive, AlwaysFive, GainsAll, CapCutsNothing}
+use Rattle.guarantee.specs.Ledger.{Call, arrive, finish}
+use Rattle.guarantee.specs.Statement.{outcomeOf, HostCall, single, batch, sessionBy, recordEvent, eventsBy, sessionAfter, AlwaysSound, NoFive, NeverFive, UnsoundFive, AlwaysFive, GainsAll, CapCutsNothing}
 use Rattle.guarantee.specs.Good.{Good}
 use Rattle.guarantee.specs.Effects.{Effect, refusal, arrived, chosen, advanced, finished, effect-of, unsound-refused}
 use Rattle.guarantee.specs.KeepsArrive.{good-arrive}
@@ -36,13 +38,22 @@ pub good-call : (l : List ℕ) (s : Session) → Good l s → (c : Call) → Goo
 good-call l s g c =
     subst (λ (z : List ℕ). Good z s → Good z (outcomeOf s c .session)) (g .rows) (λ h. rows-effect s h (effect-of s (g .sound) c)) g
 
-pub good-after : (l : List ℕ) (s : Session) → Good l s → (calls : List Call) → Good l (sessionAfter s calls)
+good-all : (l : List ℕ) (s : Session) → Good l s → (rs : List Arrival) → Good l (afterAll s rs)
+unfolding afterAll
+good-all l s g [] = g
+good-all l s g (a ∷ rs) = good-all l (arriveOf s (a .row) .session) (good-call l s g (arrive (a .row))) rs
+
+pub good-by : (l : List ℕ) (s : Session) → Good l s → (c : HostCall) → Good l (sessionBy s c)
+good-by l s g (single c) = good-call l s g c
+good-by l s g (batch rs) = good-all l s g rs
+
+good-after : (l : List ℕ) (s : Session) → Good l s → (calls : List HostCall) → Good l (sessionAfter s calls)
 unfolding sessionAfter
 good-after l s g [] = g
-good-after l s g (c ∷ calls) = good-after l (outcomeOf s c .session) (good-call l s g c) calls
+good-after l s g (c ∷ calls) = good-after l (sessionBy s c) (good-by l s g c) calls
 
 -- the session reached from a fresh one
-pub good-reached : (l : List ℕ) (t : ℕ) → answerOf l t .number ≡ 0 → (calls : List Call) → Good l (sessionAfter (sessionOf l t) calls)
+pub good-reached : (l : List ℕ) (t : ℕ) → answerOf l t .number ≡ 0 → (calls : List HostCall) → Good l (sessionAfter (sessionOf l t) calls)
 good-reached l t e calls = good-after l (sessionOf l t) (good-fresh l t e) calls
 
 pub always-sound : AlwaysSound
@@ -56,8 +67,19 @@ not-five (chosen w) z = omega arith
 not-five (advanced n ch high end) z = omega arith
 not-five (finished ch r) z = omega arith
 
+-- nor has a record of a batch 5 in its place
+none-five : (l : List ℕ) (s : Session) → Good l s → (rs : List Arrival) → NoFive (map recordEvent (answeredAll s rs))
+unfolding answeredAll
+none-five l s g [] = tt
+none-five l s g (a ∷ rs) =
+    (not-five (effect-of s (g .sound) (arrive (a .row))), none-five l (arriveOf s (a .row) .session) (good-call l s g (arrive (a .row))) rs)
+
+no-five : (l : List ℕ) (s : Session) → Good l s → (c : HostCall) → NoFive (eventsBy s c)
+no-five l s g (single c) = (not-five (effect-of s (g .sound) c), tt)
+no-five l s g (batch rs) = none-five l s g rs
+
 pub never-five : NeverFive
-never-five l t e calls c = not-five (effect-of (sessionAfter (sessionOf l t) calls) (always-sound l t e calls) c)
+never-five l t e calls c = no-five l (sessionAfter (sessionOf l t) calls) (good-reached l t e calls) c
 
 -- a finish that is accepted is not cut
 pub cap-cuts-nothing : CapCutsNothing
@@ -78,7 +100,16 @@ none-unsound : sound noSession ≡ false
 unfolding sound soundRows rowsOf answerOf badLength
 none-unsound = refl
 
+pub unsound-five : UnsoundFive
+unfolding afterAll answeredAll
+unsound-five s e [] = record { records = refl; session = refl }
+unsound-five s e (a ∷ l) =
+    let r = unsound-five s e l in
+    let o = unsound-refused s (arrive (a .row)) e in
+    record { records = rw o (ap (λ (z : List Arrival). answered a (three 5 0 0) ∷ z) (r .records)); session = rw o (r .session) }
+
 pub always-five : AlwaysFive
 unfolding sessionOf
-always-five l t ne c =
-    simp (ne-eqb (answerOf l t .number) 0 ne) (rw (unsound-refused noSession c none-unsound) (refl, refl, refl))
+always-five l t ne =
+    simp (ne-eqb (answerOf l t .number) 0 ne)
+    (record { one = λ c. rw (unsound-refused noSession c none-unsound) (refl, refl, refl); all = unsound-five noSession none-unsound })

@@ -18,7 +18,7 @@ use Rattle.session.specs.Jobs.{jobs-length}
 use Rattle.session.specs.Facts.{Running, Choice}
 use Rattle.guarantee.specs.Good.{SafeAs, Good, good-places, in-session}
 use Rattle.guarantee.specs.KeepsTable.{most-tight}
-use Rattle.guarantee.specs.KeepsSound.{ahead-waits, ahead-earlier, earlier-ahead, idle-ahead, later-not}
+use Rattle.guarantee.specs.KeepsChoice.{ahead-waits, ahead-earlier, earlier-ahead, idle-ahead, later-not}
 use Rattle.guarantee.specs.KeepsJobs.{Passed, Worked, rest-same, rest-bounds, aged-passed, aged-worked}
 use Rattle.guarantee.specs.KeepsStep.{as-step, Bounds, good-facts, good-bounds, good-changed}
 

@@ -1,9 +1,10 @@
 -- An arrival keeps a session good (docs/SPECIFICATION.md §5.3). Assumes nothing.
 use Prim.Native.Nat.{ℕ, _+_, _≤_, _<_}
-use mathlib.Core.Path.{_≡_, refl, ap, _∙_}
+use mathlib.Core.Path.{_≡_, refl, sym, ap, _∙_}
 use mathlib.Core.Logic.{⊎-elim}
 use native.Mathlib.Omega.{arith}
 use lib.Dec.{ltb}
+use lib.ListN.{length-set}
 use borrow.Author.Tests.{lt-ltb}
 use Rattle.edf.specs.Demand.{interference}
 use Rattle.edf.specs.Steps.{Arrive}
@@ -12,19 +13,20 @@ use Rattle.session.specs.declared.Job.{Job}
 use Rattle.session.specs.declared.Session.{Session}
 use Rattle.session.specs.Reading.{jobAt, rowsOf, tasks, waits, startBudget, stateOf}
 use Rattle.session.specs.Calls.{arrivedJob}
-use Rattle.guarantee.specs.Good.{Good}
-use Rattle.guarantee.specs.KeepsTable.{start-loose, start-tight, start-most}
-use Rattle.guarantee.specs.KeepsStep.{as-step, good-kind, withJob, set-at, set-other, set-others, good-set}
+use Rattle.session.specs.Arrive.{withArrived, arrived-at, arrived-other, arrived-sound}
+use Rattle.guarantee.specs.Good.{Good, good-places}
+use Rattle.guarantee.specs.KeepsTable.{start-loose, start-tight}
+use Rattle.guarantee.specs.KeepsStep.{as-step, job-same, good-kind, good-facts}
 
 module _ (s : Session) (g : Good (rowsOf s) s) (k : ℕ) (row : k < s .count) (ready : jobAt s k .next ≤ s .clock) where
   abbrev after : Session
-  after = withJob s g k row (arrivedJob s k)
+  after = withArrived s k
 
   known : k < tasks s .rows
   known = omega (arith, g .count)
 
   is : jobAt after k ≡ arrivedJob s k
-  is = set-at s g k row (arrivedJob s k)
+  is = arrived-at s k (omega (arith, good-places g))
 
   arrive-step : (b : ℕ) → startBudget (s .kind) (tasks s) k ≡ b → Arrive (tasks s) k b (stateOf s) (stateOf after)
   unfolding waits
@@ -37,8 +39,8 @@ module _ (s : Session) (g : Good (rowsOf s) s) (k : ℕ) (row : k < s .count) (r
     left = ap (λ (j : Job). j .left) is;
     budget = ap (λ (j : Job). j .budget) is ∙ e;
     waits = ap (λ (j : Job). ltb 0 (j .left)) is ∙ lt-ltb 0 (tasks s .C k) (g .fit .row k known .cost);
-    others = set-others s g k row (arrivedJob s k);
-    budgets = λ i l ne. ap (λ (j : Job). j .budget) (set-other s g k row (arrivedJob s k) i ne);
+    others = λ i l ne. job-same s after i (arrived-other s k i ne);
+    budgets = λ i l ne. ap (λ (j : Job). j .budget) (arrived-other s k i ne);
   }
 
   -- in a loose session the budget is V
@@ -46,8 +48,15 @@ module _ (s : Session) (g : Good (rowsOf s) s) (k : ℕ) (row : k < s .count) (r
   within e = ⊎-elim (λ c. start-loose (tasks s) (s .kind) e (c .1) k known) (λ c. absurd (omega arith)) (good-kind s g)
 
   pub good-arrive : Good (rowsOf s) after
-  good-arrive =
-      good-set s g k row (arrivedJob s k) (omega arith) (start-most (tasks s) (s .kind) k)
-      (as-step (tasks s) (g .fit) (g .feasible) (stateOf s) (stateOf after) (g .safe)
-      (λ e. Step.arrived k (startBudget (s .kind) (tasks s) k) (arrive-step _ refl) (within e))
-      (λ e. Earliest.arrived k (arrive-step 0 (start-tight (tasks s) (s .kind) e k))))
+  unfolding rowsOf
+  good-arrive = record {
+    fit = g .fit;
+    feasible = g .feasible;
+    rows = refl;
+    count = g .count;
+    places = length-set (s .jobs) k (arrivedJob s k) ∙ g .places;
+    sound = arrived-sound s k (good-places g) (sym (g .count)) (good-facts s g) row;
+    safe = as-step (tasks s) (g .fit) (g .feasible) (stateOf s) (stateOf after) (g .safe)
+        (λ e. Step.arrived k (startBudget (s .kind) (tasks s) k) (arrive-step _ refl) (within e))
+        (λ e. Earliest.arrived k (arrive-step 0 (start-tight (tasks s) (s .kind) e k)));
+  }

@@ -19,10 +19,9 @@ use Rattle.session.specs.declared.Job.{Job}
 use Rattle.session.specs.declared.Session.{Session}
 use Rattle.session.specs.Reading.{noJob, jobAt, rowsOf, waits, stateOf}
 use Rattle.session.specs.Admit.{wordsTo, freshOf, sessionOf}
-use Rattle.session.specs.Facts.{Facts}
+use Rattle.session.specs.Facts.{Facts, sound-of}
 use Rattle.guarantee.specs.Good.{Good}
 use Rattle.guarantee.specs.KeepsTable.{answer-length, answer-kind}
-use Rattle.guarantee.specs.KeepsSound.{sound-of}
 use Rattle.guarantee.specs.KeepsStep.{as-start}
 
 -- ---- the rows

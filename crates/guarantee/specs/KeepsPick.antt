@@ -18,7 +18,7 @@ use Rattle.session.specs.First.{none-waits, head-waits, head-least}
 use Rattle.session.specs.Choose.{draw, drawn, pickOf}
 use Rattle.session.specs.Calls.{changed}
 use Rattle.session.specs.Facts.{Choice}
-use Rattle.guarantee.specs.KeepsSound.{ahead-waits, ahead-earlier}
+use Rattle.guarantee.specs.KeepsChoice.{ahead-waits, ahead-earlier}
 
 -- c may be chosen for n ticks
 abbrev pub May : Session → ℕ → ℕ → Type 0

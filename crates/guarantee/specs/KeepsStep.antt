@@ -1,28 +1,24 @@
 -- What a good session gives, and how a changed one is shown to be good. Assumes nothing.
 -- Here a session is good for the rows that it holds.
 use Prim.Native.Nat.{ℕ, _+_, _≤_, _<_}
-use mathlib.Core.Path.{_≡_, refl, sym, ap, _∙_}
+use mathlib.Core.Path.{_≡_, refl, ap}
 use mathlib.Core.Bool.{true}
 use mathlib.Core.List.{List}
-use mathlib.Core.Logic.{dite, _⊎_, inl, inr}
-use native.Mathlib.Omega.{arith}
-use native.Mathlib.Decide.{ℕ-discrete}
-use lib.Dec.{ltb}
-use lib.ListN.{length, set, length-set}
-use lib.Seq.{getD-set-same, getD-set-other}
+use mathlib.Core.Logic.{_⊎_, inl, inr}
+use lib.ListN.{length}
 use Rattle.edf.specs.Demand.{TaskSet, Feasible}
-use Rattle.edf.specs.State.{State, Same, Others}
+use Rattle.edf.specs.State.{State, Same}
 use Rattle.edf.specs.Steps.{Start}
 use Rattle.edf.specs.Safe.{Step, safe-start, safe-step, Earliest, earliest-start, earliest-step}
 use Rattle.table.specs.Rows.{Fit, fit-lawful}
 use Rattle.session.specs.declared.Job.{Job}
 use Rattle.session.specs.declared.Session.{Session}
-use Rattle.session.specs.Reading.{clockEnd, noJob, jobAt, rowsOf, tasks, waits, mostBudget, stateOf}
+use Rattle.session.specs.Reading.{clockEnd, jobAt, rowsOf, tasks, waits, mostBudget, stateOf}
 use Rattle.session.specs.Calls.{changed}
-use Rattle.session.specs.Facts.{Choice, Facts, facts-of}
-use Rattle.guarantee.specs.Good.{SafeAs, asLoose, asTight, as-formed, Good, good-places, in-table}
+use Rattle.session.specs.Arrive.{waits-same}
+use Rattle.session.specs.Facts.{Choice, Facts, facts-of, sound-of}
+use Rattle.guarantee.specs.Good.{SafeAs, asLoose, asTight, as-formed, Good, in-table}
 use Rattle.guarantee.specs.KeepsTable.{Kind, answer-kind}
-use Rattle.guarantee.specs.KeepsSound.{sound-of}
 
 -- ---- the invariant of the theory
 
@@ -38,10 +34,6 @@ as-step τ fit fe s s′ (asLoose v) a b = asLoose (safe-step τ (fit-lawful τ 
 as-step τ fit fe s s′ (asTight v) a b = asTight (earliest-step τ (fit-lawful τ fit) fe s s′ v (b refl))
 
 -- ---- a row with the same job
-
-pub waits-same : (s s′ : Session) (i : ℕ) → jobAt s′ i ≡ jobAt s i → waits s′ i ≡ waits s i
-unfolding waits
-waits-same s s′ i e = ap (λ (j : Job). ltb 0 (j .left)) e
 
 pub job-same : (s s′ : Session) (i : ℕ) → jobAt s′ i ≡ jobAt s i → Same (stateOf s) (stateOf s′) i
 job-same s s′ i e = record {
@@ -94,36 +86,3 @@ module _ (s : Session) (g : Good (rowsOf s) s) where
         });
     safe = safe;
   }
-
-  -- another job of row k, and no choice
-  module _ (k : ℕ) (row : k < s .count) (job : Job) where
-    abbrev pub withJob : Session
-    withJob = changed s (s .clock) (set (s .jobs) k job) 0 0
-
-    pub set-at : jobAt withJob k ≡ job
-    set-at = getD-set-same (s .jobs) k job noJob (omega (arith, good-places g))
-
-    pub set-other : (i : ℕ) → ¬ (i ≡ k) → jobAt withJob i ≡ jobAt s i
-    set-other i ne = getD-set-other (s .jobs) k i job noJob ne
-
-    pub set-others : Others (tasks s) k (stateOf s) (stateOf withJob)
-    set-others i l ne = job-same s withJob i (set-other i ne)
-
-    pub good-set : job .next ≤ s .clock + tasks s .T k → job .budget ≤ mostBudget (s .kind) (tasks s) k
-        → SafeAs (tasks s) (stateOf withJob) (s .kind) → Good (rowsOf s) withJob
-    good-set a b safe =
-        good-changed (s .clock) (set (s .jobs) k job) 0 0 (length-set (s .jobs) k job ∙ g .places) (good-facts .clock) safe
-        (λ i l. dite (ℕ-discrete i k)
-        (λ e. rw e
-        (record {
-          next = omega (arith, ap (λ (j : Job). j .next) set-at);
-          budget = λ w. omega (arith, ap (λ (j : Job). j .budget) set-at);
-        }))
-        (λ ne.
-        let e = set-other i ne in
-        let f = good-bounds i l in
-        record {
-          next = omega (arith, ap (λ (j : Job). j .next) e, f .next);
-          budget = λ w. omega (arith, ap (λ (j : Job). j .budget) e, f .budget (sym (waits-same s withJob i e) ∙ w));
-        }))
-        (inl refl)

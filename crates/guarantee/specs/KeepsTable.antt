@@ -5,7 +5,7 @@ use mathlib.Core.Bool.{true, false, not}
 use mathlib.Core.List.{List}
 use mathlib.Core.Logic.{_⊎_, inl, inr, ⊎-elim}
 use native.Mathlib.Omega.{arith}
-use lib.Dec.{ltb, eqb}
+use lib.Dec.{eqb}
 use lib.IntN.{subℕ}
 use lib.ListN.{length}
 use borrow.Author.Tests.{le-ltb, ltb-false, not-true}
@@ -69,21 +69,6 @@ start-tight τ kind k i = rw k
 pub most-tight : (τ : TaskSet) (kind : ℕ) → kind ≡ 2 → (i : ℕ) → mostBudget kind τ i ≡ 0
 unfolding mostBudget
 most-tight τ kind k i = rw k
-
-natural-le : (a b : ℕ) → natural (subℕ a b) ≤ a - b
-natural-le a b = both (ltb a b) (λ e. simp e (omega arith)) (λ e. simp e (omega arith))
-
--- a job arrives with no more: V is at most D − C
-pub start-most : (τ : TaskSet) (kind i : ℕ) → startBudget kind τ i ≤ mostBudget kind τ i
-unfolding startBudget startBy budgetOf mostBudget
-start-most τ kind i =
-    both (eqb kind 1)
-    (λ e. simp e (omega (
-      arith,
-      natural-le (τ .D i) (τ .C i + interference τ i (τ .D i)),
-      ap natural (difference-sub (τ .D i) (τ .C i) (interference τ i (τ .D i))),
-    )))
-    (λ e. simp e (omega arith))
 
 pub most-le : (τ : TaskSet) (kind i : ℕ) → mostBudget kind τ i ≤ τ .D i - τ .C i
 unfolding mostBudget

@@ -2,7 +2,7 @@ pub mod Ledger
 pub mod Statement
 pub mod Good
 pub mod KeepsTable
-pub mod KeepsSound
+pub mod KeepsChoice
 pub mod Effects
 pub mod KeepsStep
 pub mod KeepsArrive

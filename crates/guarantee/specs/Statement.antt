@@ -1,9 +1,10 @@
 -- What is guaranteed over every list of calls (docs/SPECIFICATION.md §6.2), of the record of a refused table (§5.1), of the
--- order of jobs and of a choice in a tight session (§5.4), and of what a finish gives (§5.6). Definitions only. Assumes nothing.
+-- order of jobs and of a choice in a tight session (§5.4), of what a finish gives (§5.6), and of a batch of arrivals (§5.9).
+-- Definitions only. Assumes nothing.
 use Prim.Native.Nat.{ℕ, _+_, _-_, _≤_, _<_}
 use mathlib.Core.Path.{_≡_}
 use mathlib.Core.Bool.{true, false}
-use mathlib.Core.List.{List, [], _∷_}
+use mathlib.Core.List.{List, [], _∷_, _++_, map}
 use lib.Dec.{ltb, eqb}
 use lib.IntN.{ℤ, pos}
 use Rattle.edf.specs.Demand.{TaskSet}
@@ -12,12 +13,14 @@ use Rattle.table.specs.Verdict.{answerOf}
 pub use Rattle.table.specs.Theorems.{OverloadDeserved}
 use Rattle.session.specs.declared.Session.{Session}
 use Rattle.session.specs.declared.Answer.{Answer}
+use Rattle.session.specs.declared.Arrival.{Arrival}
 use Rattle.session.specs.declared.Outcome.{Outcome}
 use Rattle.session.specs.Reading.{idle, jobAt, tasks, waits}
 use Rattle.session.specs.Sound.{sound}
 use Rattle.session.specs.Order.{arrivalOf, cameBefore, headOf, permits, candidate, candidates}
 use Rattle.session.specs.Choose.{pickOf, spanOf, pickUsed, usedOf}
 use Rattle.session.specs.Calls.{shown, three, gains, arriveOf, chooseOf, advanceOf, finishOf}
+use Rattle.session.specs.Batch.{answered, afterAll, answeredAll}
 use Rattle.session.specs.Admit.{sessionOf}
 use Rattle.guarantee.specs.Ledger.{Call, arrive, choose, advance, finish, Event, End, none, at, Entry, Ledger, ledgerOf}
 
@@ -28,15 +31,34 @@ outcomeOf s (choose l) = chooseOf s l
 outcomeOf s (advance n) = advanceOf s n
 outcomeOf s finish = finishOf s
 
--- the session after a list of calls, each of which gets the session that the last one left
-unfoldable pub sessionAfter : Session → List Call → Session
-sessionAfter s [] = s
-sessionAfter s (c ∷ l) = sessionAfter (outcomeOf s c .session) l
+-- what a host calls: one of the four, or a batch, a list of records whose rows arrive
+pub data HostCall : Type 0 where
+  single : Call → HostCall
+  batch : List Arrival → HostCall
 
--- the calls with their answers in numbers
-unfoldable pub eventsOf : Session → List Call → List Event
+-- the session that it leaves
+abbrev pub sessionBy : Session → HostCall → Session
+sessionBy s (single c) = outcomeOf s c .session
+sessionBy s (batch l) = afterAll s l
+
+-- a record of a batch, as the ledger notes it: an arrive with the answer in its place
+abbrev pub recordEvent : Arrival → Event
+recordEvent a = record { call = arrive (a .row); answer = three (a .number) (a .first) (a .second) }
+
+-- what the ledger notes: the call with its answer in numbers; of a batch each of the records that it leaves
+abbrev pub eventsBy : Session → HostCall → List Event
+eventsBy s (single c) = record { call = c; answer = shown (outcomeOf s c .answer) } ∷ []
+eventsBy s (batch l) = map recordEvent (answeredAll s l)
+
+-- the session after a list of calls, each of which gets the session that the last one left
+unfoldable pub sessionAfter : Session → List HostCall → Session
+sessionAfter s [] = s
+sessionAfter s (c ∷ l) = sessionAfter (sessionBy s c) l
+
+-- what the ledger notes of them
+unfoldable pub eventsOf : Session → List HostCall → List Event
 eventsOf s [] = []
-eventsOf s (c ∷ l) = record { call = c; answer = shown (outcomeOf s c .answer) } ∷ eventsOf (outcomeOf s c .session) l
+eventsOf s (c ∷ l) = eventsBy s c ++ eventsOf (sessionBy s c) l
 
 -- a job that is over ended no later than its deadline, arrival + D; any other has its deadline still ahead of the clock
 abbrev pub Timely : TaskSet → ℕ → Entry → Type 0
@@ -57,26 +79,49 @@ InTime τ g = AllTimely τ (g .clock) (g .entries)
 abbrev pub NoJobLate : Type 0
 NoJobLate =
     (l : List ℕ) (t : ℕ) → answerOf l t .number ≡ 0
-    → (calls : List Call) → InTime (tasksOf l) (ledgerOf (tasksOf l) (eventsOf (sessionOf l t) calls))
+    → (calls : List HostCall) → InTime (tasksOf l) (ledgerOf (tasksOf l) (eventsOf (sessionOf l t) calls))
 
 -- the session reached is sound, so that no call from a fresh session is refused with 5
 abbrev pub AlwaysSound : Type 0
-AlwaysSound = (l : List ℕ) (t : ℕ) → answerOf l t .number ≡ 0 → (calls : List Call) → sound (sessionAfter (sessionOf l t) calls) ≡ true
+AlwaysSound = (l : List ℕ) (t : ℕ) → answerOf l t .number ≡ 0 → (calls : List HostCall) → sound (sessionAfter (sessionOf l t) calls) ≡ true
+
+-- none of these answers is 5
+abbrev pub NoFive : List Event → Type 0
+NoFive [] = Unit
+NoFive (e ∷ l) = (e .answer .number ≡ 5 → ⊥) × NoFive l
 
 abbrev pub NeverFive : Type 0
 NeverFive =
     (l : List ℕ) (t : ℕ) → answerOf l t .number ≡ 0
-    → (calls : List Call) (c : Call) → shown (outcomeOf (sessionAfter (sessionOf l t) calls) c .answer) .number ≡ 5 → ⊥
+    → (calls : List HostCall) (c : HostCall) → NoFive (eventsBy (sessionAfter (sessionOf l t) calls) c)
+
+-- ONE BY ONE: a batch leaves the session that its arrives leave one by one, and its records, rows and answers, are these
+-- arrives with their answers
+abbrev pub OneByOne : Type 0
+OneByOne = (s : Session) (l : List Arrival) → (afterAll s l ≡ sessionAfter s (arrivesOf l)) × (map recordEvent (answeredAll s l) ≡ eventsOf s (arrivesOf l))
+  where
+    arrivesOf : List Arrival → List HostCall
+    arrivesOf l = map (λ (a : Arrival). single (arrive (a .row))) l
 
 -- each table refused as overloaded has allowed arrivals of which every order of work leaves some job not served in time:
 -- `OverloadDeserved`, which stands in crates/table/specs/Theorems.antt and is a name of this file by its `pub use`
 
+-- the batch l on s answers 5 in every record, and leaves s
+pub record EachFive (s : Session) (l : List Arrival) : Type 0 where
+  pub records : answeredAll s l ≡ map (λ (a : Arrival). answered a (three 5 0 0)) l
+  pub session : afterAll s l ≡ s
+
+-- AN UNSOUND SESSION ANSWERS 5 IN EVERY RECORD OF A BATCH
+abbrev pub UnsoundFive : Type 0
+UnsoundFive = (s : Session) → sound s ≡ false → (l : List Arrival) → EachFive s l
+
 -- EVERY CALL ON THE RECORD OF A REFUSED TABLE ANSWERS 5: it uses no word and leaves the record as it was
+pub record Fives (s : Session) : Type 0 where
+  pub one : (c : Call) → (shown (outcomeOf s c .answer) ≡ three 5 0 0) × (outcomeOf s c .used ≡ 0) × (outcomeOf s c .session ≡ s)
+  pub all : (l : List Arrival) → EachFive s l
+
 abbrev pub AlwaysFive : Type 0
-AlwaysFive =
-    (l : List ℕ) (t : ℕ) → (answerOf l t .number ≡ 0 → ⊥) → (c : Call)
-    → (shown (outcomeOf (sessionOf l t) c .answer) ≡ three 5 0 0)
-    × (outcomeOf (sessionOf l t) c .used ≡ 0) × (outcomeOf (sessionOf l t) c .session ≡ sessionOf l t)
+AlwaysFive = (l : List ℕ) (t : ℕ) → (answerOf l t .number ≡ 0 → ⊥) → Fives (sessionOf l t)
 
 -- EQUAL CALLS GIVE EQUAL SCHEDULES: equal calls, with equal words, on equal sessions have equal outcomes. This holds of
 -- every function; that the code computes this one is the contract of each call.
@@ -86,7 +131,7 @@ Deterministic = (s s′ : Session) (c c′ : Call) → s ≡ s′ → c ≡ c′
 -- equal lists of calls from equal sessions have equal events, and lead to equal sessions
 abbrev pub DeterministicAfter : Type 0
 DeterministicAfter =
-    (s s′ : Session) (calls calls′ : List Call) → s ≡ s′ → calls ≡ calls′
+    (s s′ : Session) (calls calls′ : List HostCall) → s ≡ s′ → calls ≡ calls′
     → (eventsOf s calls ≡ eventsOf s′ calls′) × (sessionAfter s calls ≡ sessionAfter s′ calls′)
 
 -- OF EQUAL DEADLINES THE GREATER D ARRIVED FIRST: in every session, whatever the numbers, also where an arrival lies before 0
@@ -111,7 +156,7 @@ pub record Arrived (i : ℕ) (a : ℤ) (l : List Entry) : Type 0 where
 abbrev pub ArrivalsTold : Type 0
 ArrivalsTold =
     (l : List ℕ) (t : ℕ) → answerOf l t .number ≡ 0
-    → (calls : List Call) (i : ℕ) → i < tasksOf l .rows → waits (sessionAfter (sessionOf l t) calls) i ≡ true
+    → (calls : List HostCall) (i : ℕ) → i < tasksOf l .rows → waits (sessionAfter (sessionOf l t) calls) i ≡ true
     → Arrived i (arrivalOf (sessionAfter (sessionOf l t) calls) i) (ledgerOf (tasksOf l) (eventsOf (sessionOf l t) calls) .entries)
 
 -- row i's job gains all of the ticks that the answer a of a finish reports as unused, which leads from s to s′: the cap,
@@ -125,7 +170,7 @@ pub record GainsAll (s s′ : Session) (a : Answer) (i : ℕ) : Type 0 where
 abbrev pub CapCutsNothing : Type 0
 CapCutsNothing =
     (l : List ℕ) (t : ℕ) → answerOf l t .number ≡ 0
-    → (calls : List Call) → shown (finishOf (sessionAfter (sessionOf l t) calls) .answer) .number ≡ 0
+    → (calls : List HostCall) → shown (finishOf (sessionAfter (sessionOf l t) calls) .answer) .number ≡ 0
     → (i : ℕ) → i < tasksOf l .rows → gains (sessionAfter (sessionOf l t) calls) i ≡ true
     → GainsAll (sessionAfter (sessionOf l t) calls) (finishOf (sessionAfter (sessionOf l t) calls) .session)
     (finishOf (sessionAfter (sessionOf l t) calls) .answer) i

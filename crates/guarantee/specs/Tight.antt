@@ -18,7 +18,7 @@ use Rattle.session.specs.Choose.{drawn, pickOf, room, unopposed, lengthDrawn, s
 use Rattle.session.specs.Facts.{Facts, facts-of}
 use Rattle.guarantee.specs.Statement.{TightHead}
 use Rattle.guarantee.specs.KeepsTable.{most-tight}
-use Rattle.guarantee.specs.KeepsSound.{ahead-waits, ahead-earlier}
+use Rattle.guarantee.specs.KeepsChoice.{ahead-waits, ahead-earlier}
 use Rattle.guarantee.specs.Exact.{row-room}
 
 module _ (s : Session) (f : Facts s) (tight : s .kind ≡ 2) (h : headOf s < s .count) where

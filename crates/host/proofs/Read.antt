@@ -33,8 +33,8 @@ use denote.Exit.{yes}
 use Rattle.session.specs.declared.Session.{Session}
 use Rattle.session.proofs.Session as S
 use Rattle.session.proofs.Session.Laws as S′
-use Rattle.lent.proofs.Data.{valOf, IsOf, typed, has}
-use Rattle.lent.proofs.Records.{session}
+use Rattle.session.proofs.Data.{valOf, IsOf, typed, has}
+use Rattle.session.proofs.Records.{session}
 
 -- f's MIR, over the key of g
 abbrev mirOf : Name → Width → Fn

@@ -1,5 +1,5 @@
 -- What the calls here give, as data.
-use Rattle.lent.proofs.Data.{Data}
+use Rattle.session.proofs.Data.{Data}
 use Rattle.host.proofs.Reply as B
 use Rattle.host.proofs.Reply.Laws as B′
 

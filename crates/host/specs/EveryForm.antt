@@ -5,11 +5,11 @@ use Rattle.session.specs.declared.Session.{Session}
 use Rattle.session.specs.Calls.{shown}
 use Rattle.session.specs.Admit.{sessionOf}
 use Rattle.guarantee.specs.Ledger.{Call}
-use Rattle.guarantee.specs.Statement.{outcomeOf, sessionAfter, eventsOf}
+use Rattle.guarantee.specs.Statement.{outcomeOf, HostCall, single, batch, sessionBy, eventsBy, sessionAfter, eventsOf}
 use Rattle.guarantee.specs.Keeps.{never-five}
 use Rattle.guarantee.specs.Guarantee.{no-job-late}
 use Rattle.host.specs.Reply.{replyOf}
-use Rattle.host.specs.Forms.{Form, byValue, lent, exported, answerIn, eventsIn, NoJobLateAnyForm, NeverFiveAnyForm}
+use Rattle.host.specs.Forms.{Form, byValue, lent, exported, answerIn, eventsByForm, eventsIn, NoJobLateAnyForm, NeverFiveAnyForm}
 
 same-answer : (f : Form) (s : Session) (c : Call) → answerIn f s c ≡ shown (outcomeOf s c .answer)
 unfolding replyOf
@@ -17,16 +17,20 @@ same-answer byValue s c = refl
 same-answer lent s c = refl
 same-answer exported s c = refl
 
-abbrev callsOf : List (Form × Call) → List Call
-callsOf l = map (λ (c : Form × Call). c .1) l
+same-by : (f : Form) (s : Session) (c : HostCall) → eventsByForm f s c ≡ eventsBy s c
+same-by f s (single c) = rw (same-answer f s c)
+same-by f s (batch l) = refl
 
-same-events : (s : Session) (calls : List (Form × Call)) → eventsIn s calls ≡ eventsOf s (callsOf calls)
+abbrev callsOf : List (Form × HostCall) → List HostCall
+callsOf l = map (λ (c : Form × HostCall). c .1) l
+
+same-events : (s : Session) (calls : List (Form × HostCall)) → eventsIn s calls ≡ eventsOf s (callsOf calls)
 unfolding eventsIn eventsOf
 same-events s [] = refl
-same-events s (c ∷ l) = rw (same-answer (c .0) s (c .1), same-events (outcomeOf s (c .1) .session) l)
+same-events s (c ∷ l) = rw (same-by (c .0) s (c .1), same-events (sessionBy s (c .1)) l)
 
 pub no-job-late-any-form : NoJobLateAnyForm
 no-job-late-any-form l t e calls = rw (same-events (sessionOf l t) calls) (no-job-late l t e (callsOf calls))
 
 pub never-five-any-form : NeverFiveAnyForm
-never-five-any-form l t e calls f c = rw (same-answer f (sessionAfter (sessionOf l t) calls) c) (never-five l t e calls c)
+never-five-any-form l t e calls f c = rw (same-by f (sessionAfter (sessionOf l t) calls) c) (never-five l t e calls c)

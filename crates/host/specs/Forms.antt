@@ -2,14 +2,14 @@
 -- Each call gets the session that the last one returned or left. Definitions only. Assumes nothing.
 use Prim.Native.Nat.{ℕ}
 use mathlib.Core.Path.{_≡_}
-use mathlib.Core.List.{List, [], _∷_}
+use mathlib.Core.List.{List, [], _∷_, _++_}
 use Rattle.table.specs.Rows.{tasksOf}
 use Rattle.table.specs.Verdict.{answerOf}
 use Rattle.session.specs.declared.Session.{Session}
 use Rattle.session.specs.Calls.{Shown, shown, three}
 use Rattle.session.specs.Admit.{sessionOf}
 use Rattle.guarantee.specs.Ledger.{Call, Event, ledgerOf}
-use Rattle.guarantee.specs.Statement.{outcomeOf, sessionAfter, InTime}
+use Rattle.guarantee.specs.Statement.{outcomeOf, HostCall, single, batch, sessionBy, eventsBy, sessionAfter, NoFive, InTime}
 use Rattle.lent.specs.Reply as lending
 use Rattle.host.specs.declared.Reply.{Reply}
 use Rattle.host.specs.Reply.{replyOf}
@@ -30,21 +30,26 @@ answerIn byValue s c = shown (outcomeOf s c .answer)
 answerIn lent s c = shown (lending.replyOf (outcomeOf s c) .answer)
 answerIn exported s c = numbersOf (replyOf (outcomeOf s c))
 
--- the calls with their answers. In every form the session that is returned, or left in the record, is the outcome's, by the
--- contract; so `AlwaysSound` and `CapCutsNothing` of crates/guarantee/specs/Statement.antt speak of every form.
-unfoldable pub eventsIn : Session → List (Form × Call) → List Event
+-- what the ledger notes of it. The contract of a batch is the same in every form.
+abbrev pub eventsByForm : Form → Session → HostCall → List Event
+eventsByForm f s (single c) = record { call = c; answer = answerIn f s c } ∷ []
+eventsByForm f s (batch l) = eventsBy s (batch l)
+
+-- and of a list of calls. In every form the session that is returned, or left in the record, is the same, by the contract; so
+-- `AlwaysSound` and `CapCutsNothing` of crates/guarantee/specs/Statement.antt speak of every form.
+unfoldable pub eventsIn : Session → List (Form × HostCall) → List Event
 eventsIn s [] = []
-eventsIn s (c ∷ l) = record { call = c .1; answer = answerIn (c .0) s (c .1) } ∷ eventsIn (outcomeOf s (c .1) .session) l
+eventsIn s (c ∷ l) = eventsByForm (c .0) s (c .1) ++ eventsIn (sessionBy s (c .1)) l
 
 -- NO JOB IS LATE, IN ANY FORM: from the fresh session of every admitted table, after every list of calls, each of them by
--- value, on the lent record or through an export
+-- value, on the lent record or through an export, and batches among them
 abbrev pub NoJobLateAnyForm : Type 0
 NoJobLateAnyForm =
     (l : List ℕ) (t : ℕ) → answerOf l t .number ≡ 0
-    → (calls : List (Form × Call)) → InTime (tasksOf l) (ledgerOf (tasksOf l) (eventsIn (sessionOf l t) calls))
+    → (calls : List (Form × HostCall)) → InTime (tasksOf l) (ledgerOf (tasksOf l) (eventsIn (sessionOf l t) calls))
 
--- and no call from such a session answers 5, in any form
+-- and no call from such a session answers 5, in any form, nor does a record of a batch hold it
 abbrev pub NeverFiveAnyForm : Type 0
 NeverFiveAnyForm =
     (l : List ℕ) (t : ℕ) → answerOf l t .number ≡ 0
-    → (calls : List Call) (f : Form) (c : Call) → answerIn f (sessionAfter (sessionOf l t) calls) c .number ≡ 5 → ⊥
+    → (calls : List HostCall) (f : Form) (c : HostCall) → NoFive (eventsByForm f (sessionAfter (sessionOf l t) calls) c)

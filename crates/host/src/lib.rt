@@ -2,8 +2,10 @@
 // passes as a pointer and a length.
 ghost use mathlib.Core.Path.{_≡_};
 ghost use Rattle.session.specs.Calls.{arriveOf, chooseOf, advanceOf, finishOf};
+ghost use Rattle.session.specs.Batch.{afterAll, answeredAll};
 ghost use Rattle.host.specs.Reply.{replyOf, verdictOf, Opened};
 ghost use Rattle.host.specs.Numbers.{soundNumber, budgetAt};
+use session::Arrival;
 use session::Outcome;
 use session::Session;
 use session::admit::Admission;
@@ -73,6 +75,14 @@ pub extern "C" fn shuffle_arrive(s: &mut Session, row: u64) -> Reply
     let o = calls::arrive::arrive(*s, row);
     *s = o.session;
     seen(o)
+}
+
+// The records of a list arrive in order; each gets its answer.
+#[no_mangle]
+pub extern "C" fn shuffle_arrive_all(s: &mut Session, list: &mut [Arrival])
+    ensures { λ _. ⌜ (now (s .exit) ≡ afterAll (now (s .entry)) (now (list .entry))) × (now (list .exit) ≡ answeredAll (now (s .entry)) (now (list .entry))) ⌝ }
+{
+    *s = batch::arrive_all(*s, list);
 }
 
 #[no_mangle]

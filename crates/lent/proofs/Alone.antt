@@ -39,9 +39,9 @@ use Rattle.session.proofs.Session as S
 use Rattle.session.proofs.Session.Laws as S′
 use Rattle.session.proofs.Outcome as P
 use Rattle.session.proofs.Outcome.Laws as P′
-use Rattle.lent.proofs.Data.{Data, rowOf, valOf, IsOf, is-val, typed, has, opened, closed, gives}
-use Rattle.lent.proofs.Records.{session, outcome, in-outcome}
-use Rattle.lent.proofs.Need.{Need}
+use Rattle.session.proofs.Data.{Data, rowOf, valOf, IsOf, is-val, typed, has, opened, closed, gives}
+use Rattle.session.proofs.Records.{session, outcome, in-outcome}
+use Rattle.session.proofs.Need.{Need}
 use Rattle.lent.proofs.View as second
 use Rattle.lent.proofs.View.{views}
 
@@ -60,7 +60,7 @@ mirOf k m T = record {
   body =
       seq (assign (place 3 []) (rvOpd (copy (place 1 (deref S′.mir ∷ [])))))
       (seq (call k (copy (place 3 []) ∷ []) (place 2 []))
-      (seq (assign (place 1 (deref S′.mir ∷ [])) (rvOpd (copy (place 2 (field 2 ∷ [])))))
+      (seq (assign (place 1 (deref S′.mir ∷ [])) (rvOpd (copy (place 2 (field 1 ∷ [])))))
       (seq (call m (copy (place 2 []) ∷ []) (place 0 [])) return)));
 }
 
@@ -148,7 +148,7 @@ module _ (k m : Name) (T : Data) (N : Need) (spec : Session → Outcome) (view :
           gives ! tt outcome u (‵ ftrue) (Call .post to-call u) (ensured 𝓤 H A g-ended g-clauses tt (s, tt) tt) (λ o. o ≡ spec s) (id⊢ 𝓤 _) (said s) (λ o e is.
           drop ! $ land ! (from ! (stop !)) (init ! 6 refl (typed W outcome o u is)) $
           rewrite ! 6 (λ (v : Val). ‵ (fat fullShare P′.mir l₂ 0 v)) (ap only (LL.tells P.the-type P′.the-laws o (u ∷ []) is)) refl $
-          assigns ! (of-opd ! (load ! (from ! (fld ! refl (stop !))) (look-in ! 6 (sub ! 2 refl (whole !))))) (from ! (hop ! (look ! 8 refl) (stop !)))
+          assigns ! (of-opd ! (load ! (from ! (fld ! refl (stop !))) (look-in ! 6 (sub ! 1 refl (whole !))))) (from ! (hop ! (look ! 8 refl) (stop !)))
           (store-raw ! 0 refl (typed W session (o .session) _ (in-outcome o u is))) $
           views ! fm outcome T view seen o (is-val outcome o u is) (and-then ! (load ! (from ! (stop !)) (look ! 7 refl)) (no-more !)) (λ v r e′ is′.
           land ! (from ! (stop !)) (init ! 10 refl (typed W T r v is′)) $ closed ! tt session s (o .session) b i (in-outcome o u is) $

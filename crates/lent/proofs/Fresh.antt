@@ -43,8 +43,8 @@ use Rattle.session.proofs.Session as S
 use Rattle.session.proofs.Session.Laws as S′
 use Rattle.session.proofs.admit.Admission as P
 use Rattle.session.proofs.admit.Admission.Laws as P′
-use Rattle.lent.proofs.Data.{Data, rowOf, IsOf, is-val, typed, has, opened, closed, gives}
-use Rattle.lent.proofs.Records.{session, admission, in-admission}
+use Rattle.session.proofs.Data.{Data, rowOf, IsOf, is-val, typed, has, opened, closed, gives}
+use Rattle.session.proofs.Records.{session, admission, in-admission}
 use Rattle.lent.proofs.Slice.{sliceOf, lentOf, slice-twice}
 use Rattle.lent.proofs.View as second
 use Rattle.lent.proofs.View.{views}

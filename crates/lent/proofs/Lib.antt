@@ -1,10 +1,8 @@
-pub mod Data
-pub mod Records
 pub mod Slice
 pub mod View
-pub mod Need
 pub mod Number
 pub mod Alone
 pub mod Words
+pub mod Batch
 pub mod Fresh
 mod Result

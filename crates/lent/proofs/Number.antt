@@ -41,9 +41,9 @@ use Rattle.session.proofs.Session as S
 use Rattle.session.proofs.Session.Laws as S′
 use Rattle.session.proofs.Outcome as P
 use Rattle.session.proofs.Outcome.Laws as P′
-use Rattle.lent.proofs.Data.{Data, rowOf, valOf, IsOf, is-val, typed, has, opened, closed, gives}
-use Rattle.lent.proofs.Records.{session, outcome, in-outcome}
-use Rattle.lent.proofs.Need.{Need}
+use Rattle.session.proofs.Data.{Data, rowOf, valOf, IsOf, is-val, typed, has, opened, closed, gives}
+use Rattle.session.proofs.Records.{session, outcome, in-outcome}
+use Rattle.session.proofs.Need.{Need}
 use Rattle.lent.proofs.View as second
 use Rattle.lent.proofs.View.{views}
 
@@ -63,7 +63,7 @@ mirOf k m w T = record {
   body =
       seq (assign (place 4 []) (rvOpd (copy (place 1 (deref S′.mir ∷ [])))))
       (seq (call k (copy (place 4 []) ∷ copy (place 2 []) ∷ []) (place 3 []))
-      (seq (assign (place 1 (deref S′.mir ∷ [])) (rvOpd (copy (place 3 (field 2 ∷ [])))))
+      (seq (assign (place 1 (deref S′.mir ∷ [])) (rvOpd (copy (place 3 (field 1 ∷ [])))))
       (seq (call m (copy (place 3 []) ∷ []) (place 0 [])) return)));
 }
 
@@ -155,7 +155,7 @@ module _ (k m : Name) (w : Width) (T : Data) (N : Need) (spec : Session → ℕ 
           gives ! tt outcome u (‵ ftrue) (Call .post to-call u) (ensured 𝓤 H A (g-ended w) g-clauses tt (s, (n, tt)) tt) (λ o. o ≡ spec s n) (id⊢ 𝓤 _) (said s n) (λ o e is.
           drop ! $ land ! (from ! (stop !)) (init ! 6 refl (typed W outcome o u is)) $
           rewrite ! 6 (λ (v : Val). ‵ (fat fullShare P′.mir l₃ 0 v)) (ap only (LL.tells P.the-type P′.the-laws o (u ∷ []) is)) refl $
-          assigns ! (of-opd ! (load ! (from ! (fld ! refl (stop !))) (look-in ! 6 (sub ! 2 refl (whole !))))) (from ! (hop ! (look ! 10 refl) (stop !)))
+          assigns ! (of-opd ! (load ! (from ! (fld ! refl (stop !))) (look-in ! 6 (sub ! 1 refl (whole !))))) (from ! (hop ! (look ! 10 refl) (stop !)))
           (store-raw ! 0 refl (typed W session (o .session) _ (in-outcome o u is))) $
           views ! fm outcome T view seen o (is-val outcome o u is) (and-then ! (load ! (from ! (stop !)) (look ! 7 refl)) (no-more !)) (λ v r e′ is′.
           land ! (from ! (stop !)) (init ! 12 refl (typed W T r v is′)) $ closed ! tt session s (o .session) b i (in-outcome o u is) $

@@ -1,7 +1,7 @@
 -- What the calls here give, as data.
 use Rattle.table.proofs.Assessment as C
 use Rattle.table.proofs.Assessment.Laws as C′
-use Rattle.lent.proofs.Data.{Data}
+use Rattle.session.proofs.Data.{Data}
 use Rattle.lent.proofs.Reply as B
 use Rattle.lent.proofs.Reply.Laws as B′
 

@@ -20,7 +20,7 @@ use denote.Triple.Call.{calls-at}
 use denote.Triple.Spec.{tripleOf}
 use denote.Triple.Clauses.{Ended, Clauses, closing, ensured, lasts}
 use denote.Exit.{yes}
-use Rattle.lent.proofs.Data.{Data, rowOf, valOf, IsOf, has, gives}
+use Rattle.session.proofs.Data.{Data, rowOf, valOf, IsOf, has, gives}
 
 module _ (O T : Data) (view : O .decl .D → T .decl .D) where
   abbrev ended : Ended

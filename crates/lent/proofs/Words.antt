@@ -43,10 +43,10 @@ use Rattle.session.proofs.Session as S
 use Rattle.session.proofs.Session.Laws as S′
 use Rattle.session.proofs.Outcome as P
 use Rattle.session.proofs.Outcome.Laws as P′
-use Rattle.lent.proofs.Data.{Data, rowOf, valOf, IsOf, is-val, typed, has, opened, closed, gives}
-use Rattle.lent.proofs.Records.{session, outcome, in-outcome}
+use Rattle.session.proofs.Data.{Data, rowOf, valOf, IsOf, is-val, typed, has, opened, closed, gives}
+use Rattle.session.proofs.Records.{session, outcome, in-outcome}
 use Rattle.lent.proofs.Slice.{sliceOf, lentOf, slice-twice}
-use Rattle.lent.proofs.Need.{Need}
+use Rattle.session.proofs.Need.{Need}
 use Rattle.lent.proofs.View as second
 use Rattle.lent.proofs.View.{views}
 
@@ -66,7 +66,7 @@ mirOf k m T = record {
   body =
       seq (assign (place 4 []) (rvOpd (copy (place 1 (deref S′.mir ∷ [])))))
       (seq (call k (copy (place 4 []) ∷ copy (place 2 []) ∷ []) (place 3 []))
-      (seq (assign (place 1 (deref S′.mir ∷ [])) (rvOpd (copy (place 3 (field 2 ∷ [])))))
+      (seq (assign (place 1 (deref S′.mir ∷ [])) (rvOpd (copy (place 3 (field 1 ∷ [])))))
       (seq (call m (copy (place 3 []) ∷ []) (place 0 [])) return)));
 }
 
@@ -164,7 +164,7 @@ module _ (k m : Name) (T : Data) (N : Need) (spec : Session → List ℕ → Out
           -- [the slice's token; the slice; the record's cell; the open borrow; obs; auth; _4; …]
           land ! (from ! (stop !)) (init ! 8 refl (typed W outcome o u is)) $
           rewrite ! 8 (λ (v : Val). ‵ (fat fullShare P′.mir l₃ 0 v)) (ap only (LL.tells P.the-type P′.the-laws o (u ∷ []) is)) refl $
-          assigns ! (of-opd ! (load ! (from ! (fld ! refl (stop !))) (look-in ! 8 (sub ! 2 refl (whole !))))) (from ! (hop ! (look ! 12 refl) (stop !)))
+          assigns ! (of-opd ! (load ! (from ! (fld ! refl (stop !))) (look-in ! 8 (sub ! 1 refl (whole !))))) (from ! (hop ! (look ! 12 refl) (stop !)))
           (store-raw ! 2 refl (typed W session (o .session) _ (in-outcome o u is))) $
           views ! fm outcome T view seen o (is-val outcome o u is) (and-then ! (load ! (from ! (stop !)) (look ! 9 refl)) (no-more !)) (λ v r e′ is′.
           land ! (from ! (stop !)) (init ! 14 refl (typed W T r v is′)) $ move ! (2 ∷ 3 ∷ 4 ∷ 5 ∷ []) $ closed ! tt session s (o .session) b i (in-outcome o u is) $

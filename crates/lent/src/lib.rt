@@ -4,8 +4,10 @@ ghost use mathlib.Core.Path.{_≡_};
 ghost use Rattle.table.specs.Assess.{Assessed, shownOf};
 ghost use Rattle.session.specs.Admit.{sessionOf};
 ghost use Rattle.session.specs.Calls.{arriveOf, chooseOf, advanceOf, finishOf};
+ghost use Rattle.session.specs.Batch.{afterAll, answeredAll};
 ghost use Rattle.lent.specs.Reply.{replyOf};
 use session::Answer;
+use session::Arrival;
 use session::Outcome;
 use session::Session;
 use session::admit::Admission;
@@ -40,6 +42,13 @@ pub fn arrive(s: &mut Session, row: u64) -> Reply
     let o = calls::arrive::arrive(*s, row);
     *s = o.session;
     seen(o)
+}
+
+// The records of a list arrive in order; each gets its answer.
+pub fn arrive_all(s: &mut Session, list: &mut [Arrival])
+    ensures { λ _. ⌜ (now (s .exit) ≡ afterAll (now (s .entry)) (now (list .entry))) × (now (list .exit) ≡ answeredAll (now (s .entry)) (now (list .entry))) ⌝ }
+{
+    *s = batch::arrive_all(*s, list);
 }
 
 pub fn choose(s: &mut Session, words: &[u32]) -> Reply

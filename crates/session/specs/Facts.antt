@@ -1,15 +1,15 @@
--- What a sound session's tests say, as facts (docs/SPECIFICATION.md §5.2). Assumes nothing.
+-- What a sound session's tests say, as facts, and back from these to the tests (docs/SPECIFICATION.md §5.2). Assumes nothing.
 use Prim.Native.Nat.{ℕ, _+_, _*_, _/_, _≤_, _<_}
-use mathlib.Core.Path.{_≡_}
+use mathlib.Core.Path.{_≡_, refl}
 use mathlib.Core.Bool.{true, not, _&&_, _||_}
 use mathlib.Core.Logic.{dite, _⊎_, inl, inr, ⊎-elim}
 use native.Mathlib.Omega.{arith}
 use native.Mathlib.Decide.{decLt}
 use lib.Dec.{leb, eqb}
 use lib.ListN.{length, List·getD-eq-default}
-use borrow.Author.Tests.{leb-true, ltb-true, eqb-true, eqb-false}
-use Rattle.bounded.specs.Tests.{both, and-true, so-then, or-true}
-use Rattle.bounded.specs.All.{allTo, all-at}
+use borrow.Author.Tests.{leb-true, ltb-true, eqb-true, eqb-false, le-leb, lt-ltb, eq-eqb}
+use Rattle.bounded.specs.Tests.{both, and-true, and-both, so-then, then-so, or-true}
+use Rattle.bounded.specs.All.{allTo, all-at, all-of}
 use Rattle.table.specs.Rows.{horizon, tasksOf, Fit}
 use Rattle.table.specs.Verdict.{answerOf}
 use Rattle.table.specs.Theorems.{answer-fit}
@@ -46,6 +46,8 @@ pub record Facts (s : Session) : Type 0 where
   pub next : (i : ℕ) → i < s .count → jobAt s i .next ≤ s .clock + tasks s .T i
   pub job : (i : ℕ) → i < s .count → waits s i ≡ true → Waiting s i
   pub choice : (s .span ≡ 0) ⊎ Choice s
+
+-- ---- from the tests to the facts
 
 waiting-of : (s : Session) (i : ℕ) → waits s i ≡ true → soundWaiting s i ≡ true → Waiting s i
 unfolding waits soundWaiting
@@ -107,6 +109,47 @@ facts-of s e =
           (and-true (leb (jobAt s i .next) (s .clock + tasks s .T i)) (not (waits s i) || soundWaiting s i) (job i l) .1) w);
       choice = choice-of s (c .1);
     }
+
+-- ---- from the facts to the tests
+
+waiting-sound : (s : Session) (i : ℕ) → Waiting s i → soundWaiting s i ≡ true
+unfolding soundWaiting
+waiting-sound s i w =
+    simp (le-leb _ _ (w .most), eq-eqb _ _ (w .deadline), lt-ltb _ _ (w .notLate)) (le-leb _ _ (w .budget))
+
+running-sound : (s : Session) → (s .chosen ≡ idle) ⊎ Running s → runs s (s .chosen) (s .span) ≡ true
+unfolding runs
+running-sound s (inl e) = simp (eq-eqb (s .chosen) idle e)
+running-sound s (inr r) =
+    both (eqb (s .chosen) idle) (λ e. simp e)
+    (λ e. simp (e, lt-ltb (s .chosen) (s .count) (r .known), r .waiting) (le-leb _ _ (r .within)))
+
+choice-sound : (s : Session) → (s .span ≡ 0) ⊎ Choice s → soundChoice s ≡ true
+unfolding soundChoice affords
+choice-sound s (inl e) = simp (eq-eqb (s .span) 0 e)
+choice-sound s (inr c) =
+    both (eqb (s .span) 0) (λ e. simp e)
+    (λ e.
+    simp (e, le-leb (s .span) horizon (c .small), running-sound s (c .runs))
+    (all-of (affords s (s .chosen) (s .span)) (s .count)
+    (λ j l. then-so (ahead s (s .chosen) j) _ (λ a. le-leb (s .span) (jobAt s j .budget) (c .affords j l a)))))
+
+pub sound-of : (s : Session) → Facts s → sound s ≡ true
+unfolding sound soundRows soundJob
+sound-of s f =
+    simp (
+      le-leb (s .count) 16 (f .few),
+      f .admitted,
+      f .kind,
+      eq-eqb (s .kind) (s .kind) refl,
+      le-leb (s .clock) clockEnd (f .clock),
+      all-of (soundJob s) (s .count)
+          (λ i l.
+          and-both _ _ (le-leb _ _ (f .next i l))
+          (then-so (waits s i) (soundWaiting s i) (λ w. waiting-sound s i (f .job i l w)))),
+    ) (choice-sound s (f .choice))
+
+-- ---- the rows
 
 -- its rows keep their rule
 pub facts-fit : (s : Session) → Facts s → Fit (tasks s)

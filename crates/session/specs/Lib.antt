@@ -6,9 +6,11 @@ pub mod First
 pub mod Alone
 pub mod Choose
 pub mod Calls
+pub mod Batch
 pub mod Jobs
 pub mod Admit
 pub mod Facts
 pub mod Ahead
 pub mod Soundness
+pub mod Arrive
 pub mod Guard

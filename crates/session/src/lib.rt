@@ -67,6 +67,15 @@ pub struct Numbers {
     pub second: u64,
 }
 
+// A row whose job arrives, and the place for the answer: its number and two values, as `show` gives them.
+#[repr(C)]
+pub struct Arrival {
+    pub row: u64,
+    pub number: u64,
+    pub first: u64,
+    pub second: u64,
+}
+
 fn triple(number: u64, first: u64, second: u64) -> Numbers
     ensures { λ r. ⌜ Shows (three number first second) r ⌝ }
 {
@@ -96,11 +105,12 @@ pub fn show(answer: Answer) -> Numbers
     }
 }
 
-// The answer, how many words a choice used, and the session that the call leaves.
+// The answer, the session that the call leaves, and how many words a choice used. In this order a batch copies the session
+// once less for each record.
 pub struct Outcome {
     pub answer: Answer,
-    pub used: u64,
     pub session: Session,
+    pub used: u64,
 }
 
 // The numbers of a table in the places of a session.

@@ -8,7 +8,6 @@ ghost use Rattle.table.specs.Rows.{tasksOf, Fit};
 ghost use Rattle.table.specs.Bound.{Within};
 ghost use Rattle.table.specs.Inverse.{Inverses};
 ghost use Rattle.table.specs.Budgets.{chargeOf, budgetOf, putOf, budgetsOf};
-use super::inverse::inverses_of;
 use super::request::row_request;
 use super::rows::count;
 use super::rows::fit_row;
@@ -70,23 +69,15 @@ pub fn magnitude(v: i64) -> u64
     v as u64
 }
 
-// V of row i: D, less C, less what the others can take until the deadline.
-fn value_of(words: &[u32], inverses: &[u64; 16], i: usize) -> i64
+// V of row i: D, less C, less what the others can take until the deadline. Internal: its callers have tested the rows, or have
+// a sound session.
+pub fn value_of(words: &[u32], inverses: &[u64; 16], i: usize) -> i64
     requires { ⌜ Fit (tasksOf (now words)) × Inverses (tasksOf (now words)) (now inverses) × (i < tasksOf (now words) .rows) ⌝ }
     ensures { λ r. ⌜ r ≡ budgetOf (tasksOf (now (words .entry))) i ⌝ }
 {
     let k = fit_row(words, i);
     let sum = interfering(words, inverses, i, k.deadline);
     minus(k.deadline, k.run, sum)
-}
-
-// The same of one row alone. Internal: its callers have a sound session.
-pub fn budget(words: &[u32], i: usize) -> i64
-    requires { ⌜ Fit (tasksOf (now words)) × (i < tasksOf (now words) .rows) ⌝ }
-    ensures { λ r. ⌜ r ≡ budgetOf (tasksOf (now (words .entry))) i ⌝ }
-{
-    let inverses = inverses_of(words);
-    value_of(words, &inverses, i)
 }
 
 fn put(b: Budgets, i: usize, v: i64) -> Budgets

@@ -24,7 +24,7 @@ use Rattle.session.specs.Reading.{idle}
 use Rattle.session.specs.Choose.{pickOf, pickUsed, spanOf, lengthDrawn}
 use Rattle.session.specs.Calls.{shown, chooseOf, chooseIn, finishOf, finishIn}
 use Rattle.session.specs.Facts.{facts-of}
-use Rattle.guarantee.specs.KeepsSound.{in-force, running}
+use Rattle.guarantee.specs.KeepsChoice.{in-force, running}
 use Rattle.guarantee.specs.Exact.{divisors}
 use Rattle.transcript.specs.Step.{queueLimit, callOf, answerText, stepOf}
 use Rattle.transcript.specs.Kept.{Kept, kept-call}

@@ -1,4 +1,5 @@
-//! The four calls: arrive, choose, advance, finish.
+//! The four calls: arrive, choose, advance, finish; and arrivals of a whole list
+//! in one call.
 
 use crate::session::{Choice, Job, Session, Slot, CLOCK_END, IDLE};
 use crate::table::{Kind, HORIZON};
@@ -35,6 +36,28 @@ impl Answer {
     }
 }
 
+/// A record of a list of arrivals: a row, and the place for its answer.
+#[derive(Clone, Copy, Debug, PartialEq, Eq)]
+pub struct Arrival {
+    /// Of 64 bits, as in the list that a host lends.
+    pub row: u64,
+    pub answer: Answer,
+}
+
+impl Arrival {
+    /// A record whose answer is not there yet.
+    pub fn of(row: u64) -> Self {
+        Arrival {
+            row,
+            answer: Answer::accepted(0, 0),
+        }
+    }
+
+    pub fn is_accepted(&self) -> bool {
+        self.answer.number == 0
+    }
+}
+
 /// Makes a call on a session of any content.
 pub fn perform(session: &mut Session, call: Call) -> Answer {
     if session.is_sound() {
@@ -47,21 +70,36 @@ pub fn perform(session: &mut Session, call: Call) -> Answer {
 /// Makes a call on a session that the caller knows to be sound.
 pub fn perform_on_sound(session: &mut Session, call: Call) -> Answer {
     match call {
-        Call::Arrive(row) => arrive(session, row),
+        Call::Arrive(row) => arrive(session, u64::from(row)),
         Call::Choose(words) => choose(session, words),
         Call::Advance(ticks) => advance(session, u64::from(ticks)),
         Call::Finish => finish(session),
     }
 }
 
-fn arrive(session: &mut Session, row: u32) -> Answer {
-    let index = row as usize;
+/// Lets a job of each record's row arrive, in list order, and fills in the
+/// answers, in a session of any content.
+pub fn arrive_all(session: &mut Session, list: &mut [Arrival]) {
+    // It holds for the whole list: an arrival leaves a sound session sound, and
+    // a refusal leaves every session as it is.
+    let is_sound = session.is_sound();
+    for arrival in list {
+        arrival.answer = if is_sound {
+            arrive(session, arrival.row)
+        } else {
+            Answer::refused(5, 0, 0)
+        };
+    }
+}
+
+fn arrive(session: &mut Session, row: u64) -> Answer {
+    let index = usize::try_from(row).unwrap_or(usize::MAX);
     let Some(task) = session.rows.get(index) else {
-        return Answer::refused(6, u64::from(row), 0);
+        return Answer::refused(6, row, 0);
     };
     let next = session.slots[index].next;
     if session.clock < next {
-        return Answer::refused(7, u64::from(row), next);
+        return Answer::refused(7, row, next);
     }
     let due = session.clock + u64::from(task.deadline);
     session.slots[index] = Slot {
@@ -73,7 +111,7 @@ fn arrive(session: &mut Session, row: u32) -> Answer {
         }),
     };
     session.choice = None;
-    Answer::accepted(u64::from(row), due)
+    Answer::accepted(row, due)
 }
 
 /// The rows that may be chosen, in order, idle last; never empty.

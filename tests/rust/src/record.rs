@@ -1,12 +1,12 @@
 //! The model's view of a record of the library, and what each call must make
 //! of the record.
 
-use crate::calls::{perform, Answer, Call};
+use crate::calls::{arrive_all, perform, Answer, Arrival, Call};
 use crate::session::{Choice, Job, Session, Slot};
 use crate::shuffle::{self, Reply, Session as Record};
 use crate::table::{admit, budget, compared_range, demand, Kind, Row, ROW_LIMIT};
 
-/// A call of the library with its arguments.
+/// A call of the library that gives one answer, with its arguments.
 #[derive(Clone, Debug)]
 pub enum Request {
     Admit(Vec<u32>),
@@ -125,6 +125,19 @@ fn expected_admission(words: &[u32]) -> (Reply, Record) {
     }
 }
 
+/// The answer to a call on a record that holds no session.
+const UNSOUND: Reply = Reply {
+    number: 5,
+    used: 0,
+    first: 0,
+    second: 0,
+};
+
+fn reply_of(answer: Answer) -> Reply {
+    let [first, second] = answer.values;
+    reply(answer.number, answer.words_used, first, second)
+}
+
 fn reply(number: u32, used: usize, first: u64, second: u64) -> Reply {
     Reply {
         number: u64::from(number),
@@ -136,18 +149,47 @@ fn reply(number: u32, used: usize, first: u64, second: u64) -> Reply {
 
 fn expected_call(record: &Record, call: Call) -> (Reply, Record) {
     let Some(mut session) = view(record) else {
-        return (reply(5, 0, 0, 0), *record);
+        return (UNSOUND, *record);
     };
-    let Answer {
-        number,
-        values: [first, second],
-        words_used,
-    } = perform(&mut session, call);
+    let answer = perform(&mut session, call);
     let mut after = *record;
-    if number == 0 {
+    if answer.number == 0 {
         store(&mut after, &session);
     }
-    (reply(number, words_used, first, second), after)
+    (reply_of(answer), after)
+}
+
+/// The list that a batch must leave, with the answers, and the record that it
+/// must leave. The answers' places may hold anything before.
+pub fn expected_batch(
+    record: &Record,
+    list: &[shuffle::Arrival],
+) -> (Vec<shuffle::Arrival>, Record) {
+    let rows = list.iter().map(|arrival| arrival.row);
+    let Some(mut session) = view(record) else {
+        return (rows.map(|row| answered(row, UNSOUND)).collect(), *record);
+    };
+    let mut arrivals: Vec<Arrival> = rows.map(Arrival::of).collect();
+    arrive_all(&mut session, &mut arrivals);
+    let mut after = *record;
+    // Without an arrival nothing changes, not even what no call looks at.
+    if arrivals.iter().any(Arrival::is_accepted) {
+        store(&mut after, &session);
+    }
+    let list = arrivals
+        .iter()
+        .map(|arrival| answered(arrival.row, reply_of(arrival.answer)));
+    (list.collect(), after)
+}
+
+/// A record of a list with its answer.
+pub fn answered(row: u64, reply: Reply) -> shuffle::Arrival {
+    shuffle::Arrival {
+        row,
+        number: reply.number,
+        first: reply.first,
+        second: reply.second,
+    }
 }
 
 /// Writes what calls may change of a session into its record: clock, jobs and

@@ -1,4 +1,5 @@
-//! Random records of the library: of random bytes, sound, and next to sound.
+//! Random records of the library: of random bytes, sound, and next to sound; and
+//! random lists of arrivals.
 
 use std::array::from_fn;
 
@@ -6,8 +7,8 @@ use crate::record::{expected_budgets, store};
 use crate::rng::Rng;
 use crate::session::CLOCK_END;
 use crate::sessions::{random_table, sound_session};
-use crate::shuffle::{self, Session as Record};
-use crate::table::{admit_rows, Row, HORIZON};
+use crate::shuffle::{self, Arrival, Session as Record};
+use crate::table::{admit_rows, Row, HORIZON, ROW_LIMIT};
 
 /// A record of random bytes, or of random numbers of every size; often with a
 /// kind and a number of rows that can be.
@@ -72,6 +73,84 @@ pub fn sound_record(rng: &mut Rng) -> Record {
 pub fn around(rng: &mut Rng, limits: &[u64]) -> u64 {
     let step = rng.pick(&[u64::MAX, 0, 1]);
     rng.pick(limits).wrapping_add(step)
+}
+
+/// A row of the record's table, or a number next to a limit.
+pub fn random_row(rng: &mut Rng, record: &Record) -> u64 {
+    match rng.below(4) {
+        0 => around(rng, &[0, record.count, 16, 1 << 32]),
+        _ => rng.draw() % record.count.max(1),
+    }
+}
+
+/// Most records of a random list.
+const LIST_LIMIT: usize = 40;
+
+/// A random list of arrivals for a record, with numbers of every size in the
+/// places for the answers.
+pub fn random_list(rng: &mut Rng, record: &Record) -> Vec<Arrival> {
+    let rows = match rng.below(8) {
+        0 => Vec::new(),
+        1..4 => shift_change(rng, record),
+        4..6 => {
+            let mut rows = random_rows(rng, record);
+            rows.retain(|row| !is_ready(record, *row));
+            rows
+        }
+        _ => random_rows(rng, record),
+    };
+    let mut number = || rng.draw() >> rng.below(64);
+    rows.into_iter()
+        .map(|row| Arrival {
+            row,
+            number: number(),
+            first: number(),
+            second: number(),
+        })
+        .collect()
+}
+
+/// All rows that may arrive, in random order, and mostly others among them.
+fn shift_change(rng: &mut Rng, record: &Record) -> Vec<u64> {
+    let ready = (0..ROW_LIMIT as u64).filter(|row| is_ready(record, *row));
+    let others = rng.pick(&[0, 1, 3, LIST_LIMIT - ROW_LIMIT]);
+    let others: Vec<u64> = (0..others).map(|_| random_row(rng, record)).collect();
+    let mut rows = Vec::new();
+    for row in ready.chain(others) {
+        rows.insert(rng.below(rows.len() + 1), row);
+    }
+    rows
+}
+
+/// Rows of any sort, often repeated: one, as many as a table can have, fewer, or
+/// more.
+fn random_rows(rng: &mut Rng, record: &Record) -> Vec<u64> {
+    let length = match rng.below(4) {
+        0 => 1,
+        1 => 2 + rng.below(ROW_LIMIT - 2),
+        2 => ROW_LIMIT,
+        _ => ROW_LIMIT + 1 + rng.below(LIST_LIMIT - ROW_LIMIT),
+    };
+    (0..length).map(|_| random_row(rng, record)).collect()
+}
+
+/// Lets no job wait in a record, and every row be ready to arrive. If it was
+/// sound, it still is: idle takes over a choice in force.
+pub fn make_ready(record: &mut Record) {
+    for job in &mut record.jobs {
+        job.left = 0;
+        job.next = job.next.min(record.clock);
+    }
+    if record.span > 0 {
+        record.chosen = shuffle::IDLE;
+    }
+}
+
+/// Whether a row is in the record's table and may arrive now.
+fn is_ready(record: &Record, row: u64) -> bool {
+    let mut jobs = record.jobs.iter().zip(0..record.count);
+    let job = jobs.find(|(_, place)| *place == row);
+    job.is_some_and(|(job, _)| job.next <= record.clock)
 }
 
 /// Sets one field of a sound record to a number next to a limit of its clause

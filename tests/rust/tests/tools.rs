@@ -1,14 +1,16 @@
 //! The parts that the comparing tools rest on.
 
+use shuffle_model::batches::{Batch, BatchTally};
 use shuffle_model::calls::{perform, Call};
 use shuffle_model::gifts::{shares, FinishTally, GiftTally, Gifts, Share};
 use shuffle_model::hard::{full_to, full_to_one, mutant, utilisation, with_longer_deadlines};
 use shuffle_model::inputs::random_input;
 use shuffle_model::rng::Rng;
+use shuffle_model::session::{Choice, Session, IDLE};
 use shuffle_model::sessions::sound_session;
 use shuffle_model::shrink::shrink;
 use shuffle_model::specification::{gifts, listing, plain, ties};
-use shuffle_model::table::{Row, ROW_LIMIT};
+use shuffle_model::table::{admit, Row, ROW_LIMIT};
 use shuffle_model::tally::Tally;
 use shuffle_model::text::{run, run_watched};
 use shuffle_model::ties::{TieTally, TiedChoices, Ties};
@@ -299,6 +301,88 @@ fn too_few_finishes_of_a_sort_are_named() {
     assert!(tally
         .to_string()
         .starts_with("of 0 accepted finishes 0 give to some job, 0 give a part"));
+}
+
+/// The sorts of batches.
+const BATCHES: [&str; 13] = [
+    "are empty",
+    "have 1 record",
+    "have 2 to 15",
+    "have 16",
+    "have more",
+    "let 2 rows or more arrive",
+    "let 16 arrive",
+    "accept a record after a refused one",
+    "repeat a row that arrived",
+    "drop a choice in force",
+    "are empty and leave a choice in force",
+    "are all refused and leave one",
+    "answer 5 in 2 records or more",
+];
+
+/// The sorts that a batch is of, by their places above.
+fn sorts_of(session: Option<&Session>, records: &[(u64, u64)]) -> Vec<usize> {
+    let mut tally = BatchTally::default();
+    tally.add(&Batch { session, records });
+    let gaps = tally.gaps(1);
+    let is_missing = |sort: usize| {
+        let start = format!("0 batches {} (", BATCHES[sort]);
+        gaps.iter().any(|gap| gap.starts_with(&start))
+    };
+    let sorts = 0..BATCHES.len();
+    sorts.filter(|sort| !is_missing(*sort)).collect()
+}
+
+#[test]
+fn batches_count_by_what_they_do() {
+    let session = Session::new(admit(&[2, 10, 10, 3, 20, 15]).unwrap());
+    let choice = Some(Choice { row: IDLE, left: 9 });
+    let choosing = Session {
+        choice,
+        ..session.clone()
+    };
+    let [free, chosen] = [&session, &choosing].map(Some);
+    let sixteen: Vec<(u64, u64)> = (0..16).map(|row| (row, 0)).collect();
+    assert_eq!(sorts_of(free, &[]), [0]);
+    assert_eq!(sorts_of(chosen, &[]), [0, 10]);
+    assert_eq!(sorts_of(None, &[]), [0]);
+    assert_eq!(sorts_of(free, &[(0, 0)]), [1]);
+    assert_eq!(sorts_of(chosen, &[(0, 0)]), [1, 9]);
+    assert_eq!(sorts_of(chosen, &[(9, 6)]), [1, 11]);
+    assert_eq!(sorts_of(None, &[(0, 5)]), [1]);
+    assert_eq!(sorts_of(None, &[(0, 5), (1, 5)]), [2, 12]);
+    assert_eq!(sorts_of(free, &[(0, 0), (9, 6)]), [2]);
+    assert_eq!(sorts_of(free, &[(9, 6), (0, 0)]), [2, 7]);
+    assert_eq!(sorts_of(free, &[(1, 0), (9, 6), (0, 0)]), [2, 5, 7]);
+    assert_eq!(sorts_of(free, &[(1, 0), (9, 6), (1, 7)]), [2, 8]);
+    assert_eq!(sorts_of(free, &[(1, 7), (9, 6), (1, 7)]), [2]);
+    assert_eq!(sorts_of(chosen, &[(0, 7); 16]), [3, 11]);
+    assert_eq!(sorts_of(free, &[(0, 7); 17]), [4]);
+    assert_eq!(sorts_of(free, &sixteen), [3, 5, 6]);
+}
+
+#[test]
+fn too_few_batches_of_a_sort_are_named() {
+    let mut tally = BatchTally::default();
+    assert!(tally.gaps(0).is_empty());
+    let gaps = tally.gaps(1);
+    assert_eq!(gaps.len(), BATCHES.len() + 4);
+    assert_eq!(
+        gaps[9],
+        "0 batches drop a choice in force (fewer than one in 400 calls)"
+    );
+    assert_eq!(
+        gaps[BATCHES.len()],
+        "0 records of batches are answered 0 (fewer than one in 70 calls)"
+    );
+    let records = [(0, 0), (0, 7), (9, 6), (8, 6)];
+    tally.add(&Batch {
+        session: None,
+        records: &records,
+    });
+    let text = tally.to_string();
+    assert!(text.starts_with("of 1 batches 0 are empty, 0 have 1 record, 1 have 2 to 15, "));
+    assert!(text.ends_with("; their records are answered 0:1 5:0 6:2 7:1"));
 }
 
 #[test]

@@ -11,7 +11,7 @@ use Rattle.host.proofs.seen.Symbol as h-def
 use Rattle.host.proofs.seen.Symbol.{name as #h}
 use Rattle.host.proofs.seen.Met as h-thm
 use Rattle.host.proofs.Result.{reply}
-use Rattle.lent.proofs.Need.{nothing-asked}
+use Rattle.session.proofs.Need.{nothing-asked}
 use Rattle.lent.proofs.Alone as law
 use Rattle.host.proofs.shuffle_finish.Key.{name as #f}
 use Rattle.host.proofs.shuffle_finish as f

@@ -11,7 +11,7 @@ use Rattle.lent.proofs.seen.Symbol as h-def
 use Rattle.lent.proofs.seen.Symbol.{name as #h}
 use Rattle.lent.proofs.seen.Met as h-thm
 use Rattle.lent.proofs.Result.{reply}
-use Rattle.lent.proofs.Need.{nothing-asked}
+use Rattle.session.proofs.Need.{nothing-asked}
 use Rattle.lent.proofs.Alone as law
 use Rattle.lent.proofs.finish.Key.{name as #f}
 use Rattle.lent.proofs.finish as f

@@ -1,18 +1,24 @@
 //! Compares the library with the model, call by call, on records of any
-//! content: the answer, soundness and every byte of the record.
+//! content: the answer, soundness and every byte of the record; and of a batch,
+//! which lets a list of rows arrive in one call, the whole list.
 
 use std::process::exit;
 use std::time::Instant;
 
+use shuffle_model::batches::{Batch, BatchTally};
 use shuffle_model::gifts::FinishTally;
 use shuffle_model::options::Options;
-use shuffle_model::record::{expected, expected_budgets, is_sound, replies_agree, view, Request};
-use shuffle_model::records::{around, displace, random_record, sound_record};
+use shuffle_model::record::{
+    answered, expected, expected_batch, expected_budgets, is_sound, replies_agree, view, Request,
+};
+use shuffle_model::records::{
+    around, displace, make_ready, random_list, random_record, random_row, sound_record,
+};
 use shuffle_model::rng::Rng;
 use shuffle_model::runs::{random_command, Style};
 use shuffle_model::session::CLOCK_END;
 use shuffle_model::sessions::random_table;
-use shuffle_model::shuffle::{budget, Reply, Session as Record};
+use shuffle_model::shuffle::{budget, Arrival, Reply, Session as Record};
 use shuffle_model::table::Row;
 use shuffle_model::tables::{any_rows, long_busy_rows};
 use shuffle_model::text::{Command, Machine};
@@ -23,10 +29,12 @@ const DEFAULT_SEED: u64 = 20_250_301;
 /// The answer numbers of the library: 0 to 12.
 const NUMBERS: usize = 13;
 /// From this many calls on, each sort of tie must have been reached, and each
-/// sort of finish often enough.
+/// sort of finish and of batch often enough.
 const FULL_CALLS: u64 = 1_000_000;
 /// Most calls of a history.
 const STEPS: u32 = 400;
+/// Of the steps of a history, one in so many is a batch.
+const BATCH_STEP: usize = 10;
 
 /// Where the record of a call comes from.
 #[derive(Clone, Copy, Debug)]
@@ -49,9 +57,12 @@ fn main() {
     let mut test = Test {
         rng: Rng::new(options.number("--seed", DEFAULT_SEED)),
         counts: [[0; NUMBERS]; SOURCES.len()],
+        batch_counts: [0; SOURCES.len()],
         sound: 0,
         ties: TiedChoices::default(),
         finishes: FinishTally::default(),
+        batches: BatchTally::default(),
+        one_by_one: 0,
     };
     while test.calls() < calls {
         test.round();
@@ -65,6 +76,7 @@ fn main() {
     }
     let mut gaps = test.ties.gaps();
     gaps.extend(test.finishes.gaps(test.calls()));
+    gaps.extend(test.batches.gaps(test.calls()));
     if calls >= FULL_CALLS && !gaps.is_empty() {
         println!("FAILED: {}", gaps.join(", "));
         exit(1);
@@ -73,21 +85,28 @@ fn main() {
 
 struct Test {
     rng: Rng,
-    /// Calls by source and answer number.
+    /// Calls of one answer, by source and answer number.
     counts: [[u64; NUMBERS]; SOURCES.len()],
+    /// Batches by source.
+    batch_counts: [u64; SOURCES.len()],
     /// Calls on sound records.
     sound: u64,
     ties: TiedChoices,
     finishes: FinishTally,
+    batches: BatchTally,
+    /// Batches whose rows also arrived one by one, on a copy.
+    one_by_one: u64,
 }
 
 impl Test {
     fn calls(&self) -> u64 {
-        self.counts.iter().flatten().sum()
+        let sources = SOURCES.iter();
+        sources.map(|(source, _)| self.calls_of(*source)).sum()
     }
 
     fn calls_of(&self, source: Source) -> u64 {
-        self.counts[source as usize].iter().sum()
+        let counts = self.counts[source as usize].iter();
+        counts.sum::<u64>() + self.batch_counts[source as usize]
     }
 
     fn count_of(&self, number: usize) -> u64 {
@@ -123,8 +142,8 @@ impl Test {
         }
     }
 
-    /// Each of the four calls on its own copy of a record, and now and then an
-    /// admission over it.
+    /// Each of the four calls on its own copy of a record, often a batch, and now
+    /// and then an admission over it.
     fn each_call(&mut self, source: Source, record: &Record) {
         let mut requests = four_calls(&mut self.rng, record);
         if self.rng.chance(1, 8) {
@@ -133,6 +152,13 @@ impl Test {
         for request in requests {
             let mut copy = *record;
             self.check(source, &mut copy, &request);
+        }
+        if self.rng.chance(1, 2) {
+            let mut copy = *record;
+            if self.rng.chance(1, 4) {
+                make_ready(&mut copy);
+            }
+            self.batch(source, &mut copy);
         }
     }
 
@@ -173,6 +199,10 @@ impl Test {
         let Some(session) = view(record).filter(|session| session.is_sound()) else {
             return false;
         };
+        if self.rng.chance(1, BATCH_STEP) {
+            self.batch(Source::History, record);
+            return true;
+        }
         let words = std::mem::take(queue);
         let machine = Machine { session, words };
         let command = random_command(&machine, &mut self.rng, style);
@@ -200,16 +230,15 @@ impl Test {
     fn check(&mut self, source: Source, record: &mut Record, request: &Request) -> Reply {
         let before = *record;
         let was_sound = is_sound(&before);
-        let expected = expected(&before, request);
-        let sound_before = before.is_sound();
+        let (expected, after) = expected(&before, request);
         let reply = request.perform(record);
-        let agrees = replies_agree(request, reply, expected.0)
-            && *record == expected.1
-            && sound_before == was_sound
-            && record.is_sound() == is_sound(&expected.1)
+        let agrees = replies_agree(request, reply, expected)
+            && records_agree((&before, was_sound), record, &after)
             && budgets_agree(request);
         if !agrees {
-            print_disagreement(source, &before, request, (reply, *record), expected);
+            self.print_before(source, &before);
+            print_replies(request, reply, expected);
+            print_after([("library", record), ("model", &after)]);
             exit(1);
         }
         self.counts[source as usize][reply.number as usize] += 1;
@@ -229,30 +258,90 @@ impl Test {
         }
     }
 
+    /// Makes a batch with a random list. Now and then the library lets the same
+    /// rows arrive one by one as well, on a copy.
+    fn batch(&mut self, source: Source, record: &mut Record) {
+        let before = *record;
+        let list = random_list(&mut self.rng, record);
+        let answers = self.check_batch(source, record, &list);
+        if !self.rng.chance(1, 4) {
+            return;
+        }
+        let mut copy = before;
+        let singles: Vec<Arrival> = list
+            .iter()
+            .map(|arrival| answered(arrival.row, copy.arrive(arrival.row)))
+            .collect();
+        if answers != singles || *record != copy {
+            self.print_before(source, &before);
+            let lists = [("batch", &answers), ("one by one", &singles)];
+            print_lists(&list, lists.map(|(name, list)| (name, surrounded(list))));
+            print_after([("batch", record), ("one by one", &copy)]);
+            exit(1);
+        }
+        self.one_by_one += 1;
+    }
+
+    /// Makes a batch and compares all that it leads to; a disagreement ends the
+    /// process. Gives the list with its answers.
+    fn check_batch(
+        &mut self,
+        source: Source,
+        record: &mut Record,
+        list: &[Arrival],
+    ) -> Vec<Arrival> {
+        let before = *record;
+        let was_sound = is_sound(&before);
+        let (expected, after) = expected_batch(&before, list);
+        let mut lent = surrounded(list);
+        record.arrive_all(&mut lent[1..=list.len()]);
+        let agrees =
+            lent == surrounded(&expected) && records_agree((&before, was_sound), record, &after);
+        if !agrees {
+            self.print_before(source, &before);
+            print_lists(list, [("library", lent), ("model", surrounded(&expected))]);
+            print_after([("library", record), ("model", &after)]);
+            exit(1);
+        }
+        self.batch_counts[source as usize] += 1;
+        self.sound += u64::from(was_sound);
+        let answers = expected.iter().map(|answer| (answer.row, answer.number));
+        self.batches.add(&Batch {
+            session: view(&before).filter(|_| was_sound).as_ref(),
+            records: &answers.collect::<Vec<_>>(),
+        });
+        expected
+    }
+
+    fn print_before(&self, source: Source, before: &Record) {
+        let calls = self.calls();
+        println!("DISAGREEMENT on a record of {source:?}, after {calls} calls");
+        println!("record  {before:?}");
+        print_soundness(before);
+    }
+
     fn summary(&self) -> String {
         let sources = SOURCES.map(|(source, name)| format!("{name} {}", self.calls_of(source)));
         let answers = (0..NUMBERS).map(|number| format!("{number}:{}", self.count_of(number)));
         format!(
-            "{} calls agree ({}; {} on sound records); answers {}; {}; {}",
+            "{} calls agree ({}; {} on sound records); answers {}; {}; {}; {}; the rows of {} of the \
+            batches also arrived one by one",
             self.calls(),
             sources.join(", "),
             self.sound,
             answers.collect::<Vec<_>>().join(" "),
             self.ties,
-            self.finishes
+            self.finishes,
+            self.batches,
+            self.one_by_one
         )
     }
 }
 
 /// The four calls with arguments that are next to the limits of this record.
 fn four_calls(rng: &mut Rng, record: &Record) -> Vec<Request> {
-    let Record {
-        clock, count, span, ..
-    } = *record;
-    let row = match rng.below(4) {
-        0 => around(rng, &[0, count, 16, 1 << 32]),
-        _ => rng.draw() % count.max(1),
-    };
+    let Record { clock, span, .. } = *record;
+    let row = random_row(rng, record);
     let ticks = match rng.below(4) {
         0 => rng.draw() % span.max(1),
         _ => around(rng, &[0, 1, span, CLOCK_END.wrapping_sub(clock), 1 << 32]),
@@ -295,30 +384,28 @@ fn budgets_agree(request: &Request) -> bool {
             .all(|row| budget(words, *row) == 0)
 }
 
-fn print_disagreement(
-    source: Source,
-    before: &Record,
-    request: &Request,
-    library: (Reply, Record),
-    model: (Reply, Record),
-) {
-    println!("DISAGREEMENT on a record of {source:?}");
-    println!("record  {before:?}");
-    println!(
-        "sound   library {}, model {}",
-        before.is_sound(),
-        is_sound(before)
-    );
+/// Whether library and model leave the same record, and agree on soundness; the
+/// record before comes with what the model says of it.
+fn records_agree((before, was_sound): (&Record, bool), library: &Record, model: &Record) -> bool {
+    library == model && before.is_sound() == was_sound && library.is_sound() == is_sound(model)
+}
+
+/// A list between two records that are not part of it. Their row may arrive in
+/// many sessions, so that a batch that goes too far changes the session too.
+fn surrounded(list: &[Arrival]) -> Vec<Arrival> {
+    let other = Arrival {
+        row: 0,
+        number: 99,
+        first: 99,
+        second: 99,
+    };
+    [&[other], list, &[other]].concat()
+}
+
+fn print_replies(request: &Request, library: Reply, model: Reply) {
     println!("call    {request:?}");
-    for (name, (reply, after)) in [("library", library), ("model", model)] {
-        println!("{name}: {reply:?}");
-        println!("{name} leaves {after:?}");
-    }
-    println!(
-        "sound after: library {}, model {}",
-        library.1.is_sound(),
-        is_sound(&model.1)
-    );
+    println!("library: {library:?}");
+    println!("model: {model:?}");
     if let Request::Admit(words) = request {
         let budgets: Vec<i64> = (0..18).map(|row| budget(words, row)).collect();
         println!(
@@ -326,4 +413,31 @@ fn print_disagreement(
             expected_budgets(words)
         );
     }
+}
+
+/// Prints each record of a batch as it was lent, and as each side leaves it; and
+/// the two around them, which are not lent.
+fn print_lists(list: &[Arrival], after: [(&str, Vec<Arrival>); 2]) {
+    println!("call    a batch of places 1 to {}", list.len());
+    for (place, before) in surrounded(list).iter().enumerate() {
+        println!("place {place}: {before:?}");
+        for (name, list) in &after {
+            println!("    {name}: {:?}", list[place]);
+        }
+    }
+}
+
+fn print_after(after: [(&str, &Record); 2]) {
+    for (name, record) in after {
+        println!("{name} leaves {record:?}");
+        print_soundness(record);
+    }
+}
+
+fn print_soundness(record: &Record) {
+    println!(
+        "sound   library {}, model {}",
+        record.is_sound(),
+        is_sound(record)
+    );
 }

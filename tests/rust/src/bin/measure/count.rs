@@ -39,6 +39,12 @@ pub fn functions(folder: &Path, arguments: &[&str]) -> HashMap<String, u64> {
     text.lines().filter_map(function).collect()
 }
 
+/// The instructions of one call; `side` is the name of the measured function.
+pub fn of_one_call(functions: &HashMap<String, u64>, side: &str) -> f64 {
+    let total = functions.get(side).copied();
+    total.unwrap_or_else(|| panic!("{side} was not counted")) as f64 / COUNTED as f64
+}
+
 /// A line such as `1,234 (56.78%)  ???:name [file]`.
 fn function(line: &str) -> Option<(String, u64)> {
     let mut fields = line.split_whitespace();

@@ -1,6 +1,7 @@
 //! Measures the calls of the library, with the check of soundness and without,
 //! beside the model, and prints the tables of docs/PERFORMANCE.md.
 
+mod arrivals;
 mod cases;
 mod count;
 mod sides;
@@ -10,7 +11,7 @@ use std::collections::HashMap;
 use std::path::Path;
 
 use cases::{busy, table, Case, Shape, CALLS, SHAPES};
-use count::{functions, repeat, COUNTED};
+use count::{functions, of_one_call, repeat, COUNTED};
 use shuffle_model::options::Options;
 use shuffle_model::record::view;
 use shuffle_model::session::Session;
@@ -26,7 +27,11 @@ fn main() {
     let options = Options::read(&["--scratch", "--shape", "--rows", "--call"]);
     if let Some(call) = options.text("--call") {
         let shape = SHAPES[options.number("--shape", 0usize)].0;
-        make_counted_calls(shape, options.number("--rows", 1), call);
+        let rows = options.number("--rows", 1);
+        match call {
+            arrivals::CALL => arrivals::make_counted_calls(shape, rows),
+            _ => make_counted_calls(shape, rows, call),
+        }
         return;
     }
     let scratch = Path::new(options.required("--scratch"));
@@ -34,13 +39,16 @@ fn main() {
         for call in CALLS {
             check(shape, name, count, call);
         }
+        arrivals::check(shape, count);
     }
     let times = time_all();
     print_summary(&times);
     print_times(&times);
+    arrivals::print_times();
     print_scan();
     let counts = count_all(scratch);
     print_counts(&counts);
+    arrivals::print_counts(scratch);
     print_growth(&counts);
 }
 
@@ -275,7 +283,7 @@ fn count_all(scratch: &Path) -> Counts {
     counts
 }
 
-/// The instructions of one call; `side` is the name of the measured function.
+/// The instructions of one call of a side.
 fn instructions(
     counts: &Counts,
     name: &'static str,
@@ -283,8 +291,7 @@ fn instructions(
     call: &'static str,
     side: &str,
 ) -> f64 {
-    let total = counts[&(name, rows, call)].get(side).copied();
-    total.unwrap_or_else(|| panic!("{side} was not counted")) as f64 / COUNTED as f64
+    of_one_call(&counts[&(name, rows, call)], side)
 }
 
 fn print_counts(counts: &Counts) {

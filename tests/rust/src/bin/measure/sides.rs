@@ -2,11 +2,13 @@
 //! each call with the check of soundness and without it. The names of the
 //! functions here are what the counts go by.
 
-use shuffle_model::calls::{perform, perform_on_sound, Answer, Call};
-use shuffle_model::record::{rows_of, Request};
+use shuffle_model::calls::{self, arrive_all, perform, perform_on_sound, Answer, Call};
+use shuffle_model::record::{answered, rows_of, Request};
 use shuffle_model::session::Session;
-use shuffle_model::shuffle::{Reply, Session as Record};
+use shuffle_model::shuffle::{Arrival, Reply, Session as Record};
 use shuffle_model::table::{admit, admit_by_scan, Kind};
+
+use crate::arrivals::Lent;
 
 // SAFETY: these are the library's signatures (tests/cores). The record must be
 // sound; pointer and length must be of one slice.
@@ -114,4 +116,27 @@ pub fn scan_checked(session: &mut Session, request: &Request) -> Reply {
         }
         _ => unreachable!("every other request is a call"),
     }
+}
+
+/// One call of the library for the whole list.
+#[no_mangle]
+#[inline(never)]
+pub fn library_arrive_all(lent: &mut Lent<Record, Arrival>) {
+    lent.session.arrive_all(&mut lent.list);
+}
+
+/// A call of the library for each record of the list, with its answer kept.
+#[no_mangle]
+#[inline(never)]
+pub fn library_arrive_each(lent: &mut Lent<Record, Arrival>) {
+    for arrival in &mut lent.list {
+        *arrival = answered(arrival.row, lent.session.arrive(arrival.row));
+    }
+}
+
+/// One call of the model for the whole list.
+#[no_mangle]
+#[inline(never)]
+pub fn model_arrive_all(lent: &mut Lent<Session, calls::Arrival>) {
+    arrive_all(&mut lent.session, &mut lent.list);
 }
