@@ -11,9 +11,9 @@
  * tick, or arrive_all for several of them; choose, if no choice is in force; run
  * what was chosen, with a timer for the span.
  *
- * Ownership. The caller owns the record, the words and the list; the library keeps no
- * pointer, has no global state, allocates nothing and needs no setup. Of the C
- * library it calls memcpy and memset only.
+ * Ownership. The caller owns the record, the words and the list; the library
+ * keeps no pointer, has no global state, allocates nothing and needs no setup. Of
+ * the C library it calls memcpy and memset only.
  *
  * Stack. No call takes more than 8,192 bytes of it, memcpy and memset not
  * counted.
@@ -25,12 +25,13 @@
  * not be used by two calls at a time.
  *
  * Pointers must not be null, also where n is 0, and must be aligned for their
- * type. They must point to a whole record, to n words, or to a list of n arrivals.
- * Neither the words nor the list must overlap the record.
+ * type. They must point to a whole record, to n words, or to a list of n
+ * arrivals. Words and list must not overlap the record.
  *
  * Contents. A record of any content may be handed in; if it is not sound
- * (section 5.2), every call on it answers 5. What these comments promise holds on
- * x86-64 with the System V calling convention, for which the library is built.
+ * (section 5.2), every call on it answers 5, arrive_all in each place of its
+ * list. What these comments promise holds on x86-64 with the System V calling
+ * convention, for which the library is built.
  */
 #ifndef SHUFFLE_H
 #define SHUFFLE_H
@@ -153,12 +154,12 @@ shuffle_reply shuffle_admit(shuffle_session *session, const uint32_t *words, siz
 shuffle_reply shuffle_arrive(shuffle_session *session, uint64_t row);
 
 /*
- * A job of each row of a list arrives now: n records, handled in list order, as
- * by shuffle_arrive one after another. Each record gets its answer, whatever its
- * place held. A refused one, as of a row that came twice, does not stop those
- * after it. The record of the session is checked once for all. A choice in force
- * is dropped if some row's job is accepted; so an empty list changes nothing.
- * Refusals, in the records: 5, 6, 7.
+ * A job of each row of a list of n arrives now, in list order, as by
+ * shuffle_arrive one after another. Each place of the list gets its answer,
+ * whatever it held. A refused one, as of a row that comes twice, does not stop
+ * those after it. The session is checked once for all. A choice in force is
+ * dropped if some job is accepted; an empty list changes nothing. Refusals, in
+ * the list: 5, 6, 7.
  */
 void shuffle_arrive_all(shuffle_session *session, shuffle_arrival *list, size_t n);
 

@@ -1,5 +1,5 @@
-// The library for C: the calls on a session record of the host, and V of a table's rows (docs/SPECIFICATION.md §9). A slice
-// passes as a pointer and a length.
+// The library for C: the calls on a session record of the host, a batch of arrivals among them, and V of a table's rows
+// (docs/SPECIFICATION.md §9). A slice passes as a pointer and a length.
 ghost use mathlib.Core.Path.{_≡_};
 ghost use Rattle.session.specs.Calls.{arriveOf, chooseOf, advanceOf, finishOf};
 ghost use Rattle.session.specs.Batch.{afterAll, answeredAll};

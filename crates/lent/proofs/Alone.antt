@@ -1,5 +1,6 @@
 -- The law for every `fn f(s: &mut Session) -> T { let o = g(*s); *s = o.session; h(o) }` over a
--- `fn g(s: Session) -> Outcome` with `ensures { λ r. ⌜ r ≡ spec s ⌝ }` and an h as in View.antt. What g asks, f asks (Need.antt).
+-- `fn g(s: Session) -> Outcome` with `ensures { λ r. ⌜ r ≡ spec s ⌝ }` and an h as in View.antt.
+-- What g asks, f asks (crates/session/proofs/Need.antt).
 use mathlib.Core.Path.{_≡_, refl, ap, _∙_}
 use Prim.Native.Nat.{ℕ}
 use mathlib.Core.List.{[], _∷_, List}

@@ -1,5 +1,6 @@
 -- The law for every `fn f(s: &mut Session, n: uW) -> T { let o = g(*s, n); *s = o.session; h(o) }` over a
--- `fn g(s: Session, n: uW) -> Outcome` with `ensures { λ r. ⌜ r ≡ spec s n ⌝ }` and an h as in View.antt. What g asks, f asks (Need.antt).
+-- `fn g(s: Session, n: uW) -> Outcome` with `ensures { λ r. ⌜ r ≡ spec s n ⌝ }` and an h as in View.antt.
+-- What g asks, f asks (crates/session/proofs/Need.antt).
 use mathlib.Core.Path.{_≡_, refl, ap, _∙_}
 use Prim.Native.Nat.{ℕ, _<_, _^_}
 use mathlib.Core.List.{[], _∷_, List}

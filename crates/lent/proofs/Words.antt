@@ -1,6 +1,6 @@
 -- The law for every `fn f(s: &mut Session, words: &[u32]) -> T { let o = g(*s, words); *s = o.session; h(o) }` over a
 -- `fn g(s: Session, words: &[u32]) -> Outcome` with `ensures { λ r. ⌜ r ≡ spec s (now (words .entry)) ⌝ }` and an h as in
--- View.antt. What g asks, f asks (Need.antt).
+-- View.antt. What g asks, f asks (crates/session/proofs/Need.antt).
 use mathlib.Core.Path.{_≡_, refl, ap, _∙_}
 use Prim.Native.Nat.{ℕ}
 use mathlib.Core.List.{[], _∷_, List}

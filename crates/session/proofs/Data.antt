@@ -1,4 +1,4 @@
--- Structs of plain data, and the steps over them that the laws here have in common.
+-- Structs of plain data, and the steps over them that the proofs by hand have in common (crates/batch, crates/lent, crates/host).
 use mathlib.Core.Path.{subst}
 use Prim.Native.Nat.{ℕ}
 use mathlib.Core.List.{List, [], _∷_}
