@@ -93,7 +93,7 @@ pub fn shared_inverses(s: Session) -> [u64; 16]
 }
 
 // `arrive_sound` with these inverses. It is a second body, since the compiler puts a function into its only caller: with one
-// body for both, a single arrive takes a third longer (docs/PERFORMANCE.md).
+// body for both, a checked arrive with one row takes a quarter longer (docs/PERFORMANCE.md).
 pub fn arrive_by(s: Session, inverses: &[u64; 16], row: u64) -> Outcome
     requires { ⌜ (sound s ≡ true) × Inverses (tasks s) (now inverses) ⌝ }
     ensures { λ r. ⌜ r ≡ arriveIn s row ⌝ }
