@@ -82,7 +82,8 @@ pub fn arrive_sound(s: Session, row: u64) -> Outcome
     }
 }
 
-// The inverses of the periods of a sound session's table, which all its arrivals can share: a division for each row.
+// The inverses of the periods of a session's table, which all its arrivals can share: a division for each row. For callers who
+// can prove that the session is sound: only of an admitted table is no period 0.
 pub fn shared_inverses(s: Session) -> [u64; 16]
     requires { ⌜ sound s ≡ true ⌝ }
     ensures { λ r. ⌜ Inverses (tasks s) r ⌝ }
@@ -92,8 +93,9 @@ pub fn shared_inverses(s: Session) -> [u64; 16]
     inverses_of(&words[..e])
 }
 
-// `arrive_sound` with these inverses. It is a second body, since the compiler puts a function into its only caller: with one
-// body for both, a checked arrive with one row takes a quarter longer (docs/PERFORMANCE.md).
+// `arrive_sound` with these inverses, for callers who can prove that they are the table's too. It is a second body, since the
+// compiler puts a function into its only caller: with one body for both, a checked arrive with one row takes a quarter longer
+// (docs/PERFORMANCE.md).
 pub fn arrive_by(s: Session, inverses: &[u64; 16], row: u64) -> Outcome
     requires { ⌜ (sound s ≡ true) × Inverses (tasks s) (now inverses) ⌝ }
     ensures { λ r. ⌜ r ≡ arriveIn s row ⌝ }
