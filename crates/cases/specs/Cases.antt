@@ -23,7 +23,7 @@ use Rattle.session.specs.declared.Session.{Session}
 use Rattle.session.specs.Reading.{idle, noJob, rowsOf, waits, ahead, startBy, startBudget, mostBudget}
 use Rattle.session.specs.Sound.{soundRows, soundWaiting, soundJob, runs, affords, soundChoice, sound}
 use Rattle.session.specs.Order.{arrivalOf, cameBefore, before, isHead, headOf, permits, candidate, candidates, position, rowWith, candidateAt}
-use Rattle.session.specs.Choose.{draw, drawn, pickOf, room, unopposed, lengthDrawn, spanOf, pickUsed, usedOf}
+use Rattle.session.specs.Choose.{drawLimit, passedOver, draw, drawUsed, contested, drawn, pickOf, room, unopposed, lengthDrawn, spanOf, pickUsed, usedOf}
 use Rattle.session.specs.Calls.{Shown, shown, three, arriveIn, chooseIn, jobsWith, agedJob, overBy, overAfter, advanceIn, gains, givenJob, finishIn, arriveOf, chooseOf, advanceOf, finishOf}
 use Rattle.session.specs.Admit.{wordsTo, freshOf, sessionOf}
 use Rattle.guarantee.specs.Ledger.{Call, arrive, choose, advance, finish}
@@ -233,6 +233,10 @@ s₈ = at (job 10 10 1 2) (job 20 15 2 6) 4 0 1
 abbrev s₉ : Session
 s₉ = at (job 10 0 0 0) (job 20 15 2 7) 4 0 0
 
+-- s₂ with a choice: c for n ticks
+abbrev s₂With : ℕ → ℕ → Session
+s₂With c n = at (job 10 10 2 5) (job 20 15 3 8) 0 c n
+
 pub cases : List Case
 cases =
     is (verdict easy 0) (answer 0 1 3)
@@ -287,6 +291,11 @@ cases =
     ∷ is (called s₇ (advance 1)) (outcome (three 0 1 0) 0 s₈)
     ∷ is (called s₈ finish) (outcome (three 0 0 1) 0 s₉)
     ∷ is (called s₉ (arrive 0)) (outcome (three 7 0 10) 0 s₉)
+    ∷ is (called s₂ (choose (4294967295 ∷ 4 ∷ 9 ∷ []))) (outcome (three 0 1 1) 3 s₃)
+    ∷ is (called s₂ (choose (4 ∷ 4294967295 ∷ 9 ∷ []))) (outcome (three 0 1 1) 3 s₃)
+    ∷ is (called s₂ (choose (4294967294 ∷ 5 ∷ []))) (outcome (three 0 16 1) 2 (s₂With 16 1))
+    ∷ is (called s₂ (choose (4294967295 ∷ 4294967295 ∷ []))) (outcome (three 0 0 2) 2 (s₂With 0 2))
+    ∷ is (called s₂ (choose (4 ∷ 4294967295 ∷ []))) (outcome (three 0 1 3) 2 (s₂With 1 3))
     ∷ []
 
 -- ---- the tables that are not loose, computed up to the tick that decides them
@@ -332,13 +341,17 @@ All [] = Unit
 All (c ∷ l) = Holds c × All l
 
 pub every-case : All cases
-unfolding cases answerOf opinionOf badLength firstBroken broken rowRule tasksOf loose looseTo allTo budgetOf valuesOf valuesTo foldTo interference demand request sumTo gate jobsBy ceilDiv leastFrom rowsOf waits ahead startBy startBudget mostBudget soundRows soundWaiting soundJob runs affords soundChoice sound arrivalOf cameBefore before isHead headOf permits candidate candidates position rowWith candidateAt draw drawn pickOf room unopposed lengthDrawn spanOf pickUsed usedOf arriveIn chooseIn jobsWith agedJob overBy overAfter advanceIn gains givenJob finishIn arriveOf chooseOf advanceOf finishOf wordsTo freshOf sessionOf
+unfolding cases answerOf opinionOf badLength firstBroken broken rowRule tasksOf loose looseTo allTo budgetOf valuesOf valuesTo foldTo interference demand request sumTo gate jobsBy ceilDiv leastFrom rowsOf waits ahead startBy startBudget mostBudget soundRows soundWaiting soundJob runs affords soundChoice sound arrivalOf cameBefore before isHead headOf permits candidate candidates position rowWith candidateAt drawLimit passedOver draw drawUsed contested drawn pickOf room unopposed lengthDrawn spanOf pickUsed usedOf arriveIn chooseIn jobsWith agedJob overBy overAfter advanceIn gains givenJob finishIn arriveOf chooseOf advanceOf finishOf wordsTo freshOf sessionOf
 every-case =
     (refl, (refl, (heavy-verdict, (refl, (rw heavy-busy, (long-verdict, (rw long-busy, (refl, (refl, (over-verdict, (over-exceeded, (refl, (refl, equals)))))))))))))
   where
+    -- words that are passed over
+    passed : All (drop 52 cases)
+    passed = (refl, (refl, (refl, (refl, (refl, tt)))))
+
     -- the listing
     listed : All (drop 41 cases)
-    listed = (refl, (refl, (refl, (refl, (refl, (refl, (refl, (refl, (refl, (refl, (refl, tt)))))))))))
+    listed = (refl, (refl, (refl, (refl, (refl, (refl, (refl, (refl, (refl, (refl, (refl, passed)))))))))))
 
     -- a finish that gives
     gifts : All (drop 27 cases)

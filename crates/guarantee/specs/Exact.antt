@@ -1,14 +1,13 @@
--- Which candidate each number of a draw names, and how long the chosen one may run (docs/SPECIFICATION.md §5.4). Assumes nothing.
-use Prim.Native.Nat.{ℕ, zero, suc, _+_, _-_, _%_, _≤_, _<_}
+-- Which candidate each number of a draw names, how long the chosen one may run, and that no word is divided by 0
+-- (docs/SPECIFICATION.md §5.4). Assumes nothing.
+use Prim.Native.Nat.{ℕ, zero, suc, _+_, _-_, _≤_, _<_}
 use mathlib.Core.Path.{_≡_, refl, sym, _∙_}
 use mathlib.Core.Bool.{Bool, true, false, not, _&&_, true≢false}
 use mathlib.Core.List.{List}
 use mathlib.Core.Logic.{dite, _⊎_, ⊎-elim}
-use native.Mathlib.Nat.{mod-lt}
 use native.Mathlib.Omega.{arith}
 use native.Mathlib.Decide.{decLt, ℕ-discrete}
-use lib.Dec.{leb, ltb, eqb}
-use lib.ListN.{getD}
+use lib.Dec.{ltb, eqb}
 use borrow.Author.Tests.{ltb-true, leb-true, eqb-true, lt-ltb, le-ltb, eq-eqb, ne-eqb}
 use Rattle.bounded.specs.Tests.{both, and-true, and-both, gate, gate-on, gate-off, gate-le}
 use Rattle.bounded.specs.Sum.{sumTo, sum-le, sum-add, sum-const, sum-zero, sum-le-at, sum-lt}
@@ -20,48 +19,13 @@ use Rattle.session.specs.Reading.{idle, jobAt, tasks, waits}
 use Rattle.session.specs.Order.{before, isHead, headOf, permits, candidate, candidates, position, rowWith, candidateAt}
 use Rattle.session.specs.Before.{before-self, before-trans, before-or}
 use Rattle.session.specs.First.{is-head, head-waits}
-use Rattle.session.specs.Choose.{draw, drawn, pickOf, room}
+use Rattle.session.specs.Choose.{draw, contested, drawn, pickOf, room}
 use Rattle.session.specs.Facts.{Facts, facts-deadline}
+use Rattle.guarantee.specs.Draws.{candidateRows, Numbered, row, last, Numbering, Drawn, Divisors}
 use Rattle.guarantee.specs.KeepsTable.{most-le}
 use Rattle.guarantee.specs.KeepsChoice.{ahead-waits, idle-ahead}
 use Rattle.guarantee.specs.KeepsPick.{pick-may}
 use Rattle.guarantee.specs.Room.{Lesser, room-lesser, may-room}
-
--- ---- the statements: the candidates' numbers
-
--- how many rows are candidates
-abbrev pub candidateRows : Session → ℕ
-candidateRows s = sumTo (λ i. gate (candidate s i) 1) (s .count)
-
--- c is candidate number k, from 0: a row with k candidates before it in the order of jobs, or idle, which comes after
--- all the rows (§5.4, Draw)
-pub data Numbered (s : Session) (k : ℕ) : ℕ → Type 0 where
-  row : (r : ℕ) → r < s .count → candidate s r ≡ true → position s r ≡ k → Numbered s k r
-  last : permits s idle ≡ true → k ≡ candidateRows s → Numbered s k idle
-
--- the candidates, n in all, are numbered 0 to n - 1
-pub record Numbering (s : Session) : Type 0 where
-  -- a row has a lower number than each row that it is before
-  pub ordered : (i j : ℕ) → i < s .count → candidate s i ≡ true → before s i j ≡ true → position s i < position s j
-  -- the rows' numbers are below how many they are
-  pub below : (i : ℕ) → i < s .count → candidate s i ≡ true → position s i < candidateRows s
-  -- no two rows have the same number
-  pub apart : (i j : ℕ) → i < s .count → j < s .count → candidate s i ≡ true → candidate s j ≡ true
-      → position s i ≡ position s j → i ≡ j
-  -- a row is found for each number below how many they are, and for no other
-  pub found : (k : ℕ) → k < candidateRows s → rowWith s k < s .count
-  pub none : (k : ℕ) → candidateRows s ≤ k → rowWith s k ≡ s .count
-  -- so each k below n is a candidate's number, and `candidateAt` gives that candidate
-  pub each : (k : ℕ) → k < candidates s → Numbered s k (candidateAt s k)
-  -- no other k is one, and no two candidates have the same
-  pub most : {k c : ℕ} → Numbered s k c → k < candidates s
-  pub one : {k c d : ℕ} → Numbered s k c → Numbered s k d → c ≡ d
-  -- the head, if a job is waiting, has number 0
-  pub head : headOf s < s .count → Numbered s 0 (headOf s)
-
--- where a first word w decides between n candidates, number w mod n is chosen (§5.4, Draw)
-abbrev pub Drawn : Session → List ℕ → Type 0
-Drawn s l = drawn s l ≡ true → Numbered s (getD l 0 0 % candidates s) (pickOf s l)
 
 -- ---- the statements: how long the chosen one may run
 
@@ -75,11 +39,6 @@ pub record IdleRoom (s : Session) : Type 0 where
   pub small : (i : ℕ) → i < s .count → waits s i ≡ true → jobAt s i .budget < horizon
   pub each : (i : ℕ) → i < s .count → waits s i ≡ true → room s idle ≤ jobAt s i .budget
   pub one : (i : ℕ) × (i < s .count) × (waits s i ≡ true) × (room s idle ≡ jobAt s i .budget)
-
--- a word is divided by 2 at least where it decides between candidates, and by 1 at least where it decides the span
-pub record Divisors (s : Session) (l : List ℕ) : Type 0 where
-  pub pick : drawn s l ≡ true → 2 ≤ candidates s
-  pub span : 1 ≤ room s (pickOf s l)
 
 -- ---- sums of tests
 
@@ -309,15 +268,16 @@ numbering s = record {
 
 -- ---- the draw
 
-pub drawn-two : (s : Session) (l : List ℕ) → drawn s l ≡ true → 2 ≤ candidates s
-unfolding drawn
-drawn-two s l e =
-    leb-true 2 (candidates s) (and-true (leb 2 (candidates s)) _ (and-true (ltb (headOf s) (s .count)) _ e .1) .0)
+pub contested-two : (s : Session) → contested s ≡ true → 2 ≤ candidates s
+unfolding contested
+contested-two s e = leb-true 2 (candidates s) (and-true (ltb (headOf s) (s .count)) _ e .1)
 
 pub drawn-number : (s : Session) (l : List ℕ) → Drawn s l
-unfolding pickOf draw
+unfolding pickOf drawn
 drawn-number s l e =
-    simp e (numbering s .each (getD l 0 0 % candidates s) (mod-lt (getD l 0 0) {m = candidates s} (omega (arith, drawn-two s l e))))
+    simp e
+    (numbering s .each (draw l (candidates s))
+    (ltb-true (draw l (candidates s)) (candidates s) (and-true (contested s) _ e .1)))
 
 -- ---- how long c may run
 
@@ -345,4 +305,4 @@ idle-room s f j l w =
 
 pub divisors : (s : Session) → Facts s → (l : List ℕ) → Divisors s l
 divisors s f l =
-    record { pick = drawn-two s l; span = may-room s (f .few) (pickOf s l) (pick-may s (f .few) l) }
+    record { pick = contested-two s; span = may-room s (f .few) (pickOf s l) (pick-may s (f .few) l) }

@@ -1,17 +1,17 @@
 -- A choice keeps a session good (docs/SPECIFICATION.md §5.4). Assumes nothing.
 use Prim.Native.Nat.{ℕ, _≤_, _<_}
 use mathlib.Core.Path.{_≡_}
+use mathlib.Core.Bool.{not}
 use mathlib.Core.List.{List}
 use mathlib.Core.Logic.{_⊎_, inl, inr}
-use native.Mathlib.Nat.{mod-lt}
 use native.Mathlib.Omega.{arith}
-use lib.ListN.{getD}
-use borrow.Author.Tests.{eq-eqb, ne-eqb}
-use Rattle.bounded.specs.Tests.{both}
+use lib.ListN.{drop}
+use borrow.Author.Tests.{eq-eqb, ne-eqb, ltb-true}
+use Rattle.bounded.specs.Tests.{both, and-true}
 use Rattle.table.specs.Rows.{horizon}
 use Rattle.session.specs.declared.Session.{Session}
 use Rattle.session.specs.Reading.{idle, jobAt, rowsOf, tasks, waits, ahead}
-use Rattle.session.specs.Choose.{draw, pickOf, pickUsed, room, lengthDrawn, spanOf}
+use Rattle.session.specs.Choose.{draw, pickOf, pickUsed, room, unopposed, lengthDrawn, spanOf}
 use Rattle.session.specs.Calls.{changed}
 use Rattle.session.specs.Facts.{Running}
 use Rattle.guarantee.specs.Good.{Good}
@@ -21,9 +21,13 @@ use Rattle.guarantee.specs.Room.{most, room-lesser, may-room}
 
 -- the span is between 1 and room
 span-le : (s : Session) (w : List ℕ) (u c : ℕ) → 1 ≤ room s c → spanOf s w u c ≤ room s c
-unfolding spanOf draw
+unfolding spanOf lengthDrawn
 span-le s w u c h =
-    both (lengthDrawn s w u c) (λ e. simp e (omega (arith, mod-lt (getD w u 0) {m = room s c} h))) (λ e. simp e (omega arith))
+    both (lengthDrawn s w u c)
+    (λ e.
+    let less = ltb-true (draw (drop u w) (room s c)) (room s c) (and-true (not (unopposed s c)) _ e .1) in
+    simp e (omega (arith, less)))
+    (λ e. simp e (omega arith))
 
 span-some : (s : Session) (w : List ℕ) (u c : ℕ) → 1 ≤ room s c → 1 ≤ spanOf s w u c
 unfolding spanOf

@@ -6,7 +6,6 @@ use mathlib.Core.List.{List}
 use mathlib.Core.Logic.{inl, inr}
 use native.Mathlib.Omega.{arith}
 use lib.Dec.{ltb, eqb}
-use lib.ListN.{getD}
 use borrow.Author.Tests.{eqb-true, ltb-true, ltb-false}
 use Rattle.bounded.specs.Tests.{both, and-true, so-then}
 use Rattle.bounded.specs.All.{all-at}
@@ -15,7 +14,7 @@ use Rattle.session.specs.declared.Session.{Session}
 use Rattle.session.specs.Reading.{idle, jobAt, waits, ahead}
 use Rattle.session.specs.Order.{headOf, permits, candidate, candidates, position, rowWith, candidateAt}
 use Rattle.session.specs.First.{none-waits, head-waits, head-least}
-use Rattle.session.specs.Choose.{draw, drawn, pickOf}
+use Rattle.session.specs.Choose.{draw, contested, drawn, pickOf}
 use Rattle.session.specs.Calls.{changed}
 use Rattle.session.specs.Facts.{Choice}
 use Rattle.guarantee.specs.KeepsChoice.{ahead-waits, ahead-earlier}
@@ -72,13 +71,13 @@ module _ (s : Session) (few : s .count ≤ 16) where
       (λ a. both (permits s idle) (λ b. simp (a, b) (idle-may (permits-at idle b))) (λ b. simp (a, b) (head-may h)))
 
   drawn-head : (w : List ℕ) → drawn s w ≡ true → headOf s < s .count
-  unfolding drawn
-  drawn-head w e = ltb-true (headOf s) (s .count) (and-true (ltb (headOf s) (s .count)) _ e .0)
+  unfolding drawn contested
+  drawn-head w e = ltb-true (headOf s) (s .count) (and-true (ltb (headOf s) (s .count)) _ (and-true (contested s) _ e .0) .0)
 
   pub pick-may : (w : List ℕ) → May s (pickOf s w) 1
   unfolding pickOf
   pick-may w =
-      both (drawn s w) (λ a. simp a (at-may (drawn-head w a) (draw (getD w 0 0) (candidates s))))
+      both (drawn s w) (λ a. simp a (at-may (drawn-head w a) (draw w (candidates s))))
       (λ a. both (ltb (headOf s) (s .count))
       (λ b. simp (a, b) (head-may (ltb-true (headOf s) (s .count) b)))
       (λ b.

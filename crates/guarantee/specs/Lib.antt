@@ -1,5 +1,6 @@
 pub mod Ledger
 pub mod Statement
+pub mod Draws
 pub mod Good
 pub mod KeepsTable
 pub mod KeepsChoice
@@ -19,5 +20,6 @@ pub mod TiesJobs
 pub mod Ties
 pub mod Guarantee
 pub mod Exact
+pub mod Uniform
 pub mod Tight
 pub mod Arrived

@@ -7,14 +7,14 @@ use mathlib.Core.Logic.{dite, ⊎-elim}
 use native.Mathlib.Omega.{arith}
 use native.Mathlib.Decide.{decLt}
 use borrow.Author.Tests.{lt-ltb, lt-leb}
-use Rattle.bounded.specs.Tests.{both, gate, gate-off}
+use Rattle.bounded.specs.Tests.{both}
 use Rattle.bounded.specs.All.{all-of}
 use Rattle.session.specs.declared.Session.{Session}
 use Rattle.session.specs.Reading.{jobAt, tasks, ahead}
 use Rattle.session.specs.Order.{headOf, candidates}
 use Rattle.session.specs.First.{none-waits, head-waits, head-least}
 use Rattle.session.specs.Alone.{only-row, not-idle, one-candidate}
-use Rattle.session.specs.Choose.{drawn, pickOf, room, unopposed, lengthDrawn, spanOf, pickUsed, usedOf}
+use Rattle.session.specs.Choose.{contested, drawn, pickOf, room, unopposed, lengthDrawn, spanOf, pickUsed, usedOf}
 use Rattle.session.specs.Facts.{Facts, facts-of}
 use Rattle.guarantee.specs.Statement.{TightHead}
 use Rattle.guarantee.specs.KeepsTable.{most-tight}
@@ -42,28 +42,26 @@ module _ (s : Session) (f : Facts s) (tight : s .kind ≡ 2) (h : headOf s < s .
       ⊎-elim (λ e. e) (λ t. absurd (true≢false (sym (t .2) ∙ none-ahead (t .0) (t .1))))
       (row-room s (headOf s) (λ e. omega (arith, f .few)) .one)
 
+  not-contested : contested s ≡ false
+  unfolding contested
+  not-contested = simp (lt-ltb (headOf s) (s .count) h, lt-leb 2 (candidates s) (omega (arith, one-candidate s h spent)))
+
+  head-first : unopposed s (headOf s) ≡ true
+  unfolding unopposed
+  head-first = all-of (λ j. not (ahead s (headOf s) j)) (s .count) (λ j k. simp (none-ahead j k))
+
   module _ (l : List ℕ) where
-    not-drawn : drawn s l ≡ false
-    unfolding drawn
-    not-drawn = simp (lt-ltb (headOf s) (s .count) h, lt-leb 2 (candidates s) (omega (arith, one-candidate s h spent)))
-
     head-picked : pickOf s l ≡ headOf s
-    unfolding pickOf
-    head-picked = simp (not-drawn, lt-ltb (headOf s) (s .count) h)
-
-    no-length : (u : ℕ) → lengthDrawn s l u (headOf s) ≡ false
-    unfolding lengthDrawn unopposed
-    no-length u =
-        simp (all-of (λ j. not (ahead s (headOf s) j)) (s .count) (λ j k. simp (none-ahead j k)))
+    unfolding pickOf drawn
+    head-picked = simp (not-contested, lt-ltb (headOf s) (s .count) h)
 
     head-span : spanOf s l (pickUsed s l) (pickOf s l) ≡ jobAt s (headOf s) .left
-    unfolding spanOf
-    head-span = rw head-picked (simp (no-length (pickUsed s l)) head-room)
+    unfolding spanOf lengthDrawn
+    head-span = rw head-picked (simp head-first head-room)
 
     no-word : usedOf s l ≡ 0
     unfolding usedOf pickUsed
-    no-word =
-        rw head-picked (omega (arith, gate-off (drawn s l) 1 not-drawn, gate-off _ 1 (no-length (gate (drawn s l) 1))))
+    no-word = rw head-picked (simp (not-contested, head-first))
 
 pub tight-head : TightHead
 tight-head s e tight i l w =

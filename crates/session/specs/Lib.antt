@@ -5,6 +5,7 @@ pub mod Before
 pub mod First
 pub mod Alone
 pub mod Choose
+pub mod Draw
 pub mod Calls
 pub mod Batch
 pub mod Jobs

@@ -1,15 +1,15 @@
 -- What the code of one line keeps, and its cases. Assumes nothing.
 use Prim.Native.Nat.{ℕ, zero, suc, _+_, _-_, _≤_, _<_, _^_}
 use mathlib.Core.Path.{_≡_, refl, sym, ap, _∙_}
-use mathlib.Core.Bool.{Bool, true, false, not, _&&_, _||_, cond, true≢false}
+use mathlib.Core.Bool.{Bool, true, false, _||_, cond, true≢false}
 use mathlib.Core.List.{List, [], _∷_, _++_}
 use native.Mathlib.Numerals.{add-one}
 use native.Mathlib.Omega.{arith}
 use lib.Dec.{leb, ltb, eqb}
 use lib.ListN.{length, take, drop, set, length-set}
 use lib.Seq.{take-nil, drop-drop, drop-append-le, length-slice, length-take-le, take-suc-set}
-use borrow.Author.Tests.{lt-ltb, le-ltb, ltb-true}
-use Rattle.bounded.specs.Tests.{both, and-true, gate-on, gate-off}
+use borrow.Author.Tests.{lt-ltb, le-ltb}
+use Rattle.bounded.specs.Tests.{both}
 use Rattle.decimal.specs.Buffer.{Wrote, overlay-none}
 use Rattle.lines.specs.declared.read.Call.{Call}
 use Rattle.lines.specs.declared.read.Call.the-variants.{Arrive, Choose, Advance, Finish}
@@ -21,11 +21,10 @@ use Rattle.session.specs.declared.Outcome.{Outcome}
 use Rattle.session.specs.declared.Numbers.{Numbers}
 use Rattle.session.specs.Reading.{idle, clockEnd, jobAt}
 use Rattle.session.specs.Sound.{sound}
-use Rattle.session.specs.Order.{headOf, candidates}
-use Rattle.session.specs.Choose.{drawn, unopposed, lengthDrawn, pickOf, pickUsed, usedOf}
+use Rattle.session.specs.Draw.{used-within}
 use Rattle.session.specs.Calls.{Shows, shown, arriveIn, arriveOf, chooseIn, chooseOf, advanceIn, advanceOf, finishIn, finishOf}
 use Rattle.transcript.specs.declared.step.Play.{Play}
-use Rattle.transcript.specs.Step.{Step, queueLimit, letterOf, callOf, answerText, unread, queued, stepOf}
+use Rattle.transcript.specs.Step.{Step, queueLimit, letterOf, callOf, answerText, unread, stepOf}
 
 -- the words that wait, among all words queued so far
 abbrev pub queueOf : List ℕ → Play → List ℕ
@@ -171,29 +170,6 @@ module _ (s : Session) (c : Call) (q : List ℕ) (h : sound s ≡ true) (o : Out
   call-finish e g = g ∙ rw e (sym (simp h))
 
 pub ruleset call-cases = (call-arrive, call-choose, call-advance, call-finish)
-
--- a choice uses no more words than there are
-drawn-some : (s : Session) (l : List ℕ) → drawn s l ≡ true → 0 < length l
-unfolding drawn
-drawn-some s l e =
-    ltb-true 0 (length l)
-    (and-true (leb 2 (candidates s)) (ltb 0 (length l)) (and-true (ltb (headOf s) (s .count)) (leb 2 (candidates s) && ltb 0 (length l)) e .1) .1)
-
-span-some : (s : Session) (l : List ℕ) (u c : ℕ) → lengthDrawn s l u c ≡ true → u < length l
-unfolding lengthDrawn
-span-some s l u c e = ltb-true u (length l) (and-true (not (unopposed s c)) (ltb u (length l)) e .1)
-
-pick-used : (s : Session) (l : List ℕ) → pickUsed s l ≤ length l
-unfolding pickUsed
-pick-used s l =
-    both (drawn s l) (λ e. omega (arith, drawn-some s l e, gate-on (drawn s l) 1 e)) (λ e. omega (arith, gate-off (drawn s l) 1 e))
-
-used-within : (s : Session) (l : List ℕ) → usedOf s l ≤ length l
-unfolding usedOf
-used-within s l =
-    let b = lengthDrawn s l (pickUsed s l) (pickOf s l) in
-    both b (λ e. omega (arith, span-some s l (pickUsed s l) (pickOf s l) e, gate-on b 1 e))
-    (λ e. omega (arith, pick-used s l, gate-off b 1 e))
 
 none-used : (b : Bool) (x y : Outcome) → x .used ≡ 0 → y .used ≡ 0 → cond b x y .used ≡ 0
 none-used true x y e f = e

@@ -143,25 +143,54 @@ fn choose(session: &mut Session, words: &[u32]) -> Answer {
     }
 }
 
+/// How many words there are.
+pub const WORDS: u64 = 1 << 32;
+
+/// The greatest multiple of `count` up to 2^32.
+pub fn limit(count: u32) -> u64 {
+    WORDS - WORDS % u64::from(count)
+}
+
+/// A number below `count`, by the first word below the limit, and the words behind
+/// that one. Without such a word no number is drawn, and none of the words is left.
+pub fn draw(count: u32, words: &[u32]) -> (Option<u32>, &[u32]) {
+    let limit = limit(count);
+    match words.iter().position(|word| u64::from(*word) < limit) {
+        Some(place) => (Some(words[place] % count), &words[place + 1..]),
+        None => (None, &[]),
+    }
+}
+
+/// How many lengths the span of a candidate can have: the lesser of its remaining
+/// ticks and the least budget of the jobs of strictly earlier deadline. None
+/// without such a job, since the span is then its remaining ticks.
+pub fn lengths(session: &Session, row: u32) -> Option<u32> {
+    let least_budget = session.earlier(row).map(|job| job.budget as u64).min()?;
+    Some(remaining(session, row).min(least_budget) as u32)
+}
+
+/// The remaining ticks of a candidate. Idle has none, and gets the horizon where
+/// nothing waits; every budget, at most D − C, is below that.
+fn remaining(session: &Session, row: u32) -> u64 {
+    session.job(row).map_or(HORIZON, |job| job.left)
+}
+
 /// What the words pick among the candidates, and how many of them it takes.
 pub fn pick(session: &Session, candidates: &[u32], words: &[u32]) -> (Choice, usize) {
-    let first_word = words.first().filter(|_| candidates.len() >= 2);
-    let row = first_word.map_or(candidates[0], |word| {
-        candidates[*word as usize % candidates.len()]
-    });
-    // Idle has no remaining ticks; every budget, at most D − C, is below the horizon.
-    let remaining = session.job(row).map_or(HORIZON, |job| job.left);
-    let (left, words_used) = match session.earlier(row).map(|job| job.budget as u64).min() {
-        None => (remaining, usize::from(first_word.is_some())),
-        Some(least_budget) => {
-            let longest = remaining.min(least_budget);
-            match words.get(1) {
-                Some(word) => (1 + u64::from(*word) % longest, 2),
-                None => (longest, 1),
-            }
+    let (number, rest) = match candidates.len() {
+        1 => (None, words),
+        count => draw(count as u32, words),
+    };
+    let row = candidates[number.unwrap_or(0) as usize];
+    let (left, rest) = match lengths(session, row) {
+        None => (remaining(session, row), rest),
+        Some(count) => {
+            let (number, rest) = draw(count, rest);
+            let left = number.map_or(count, |number| number + 1);
+            (u64::from(left), rest)
         }
     };
-    (Choice { row, left }, words_used)
+    (Choice { row, left }, words.len() - rest.len())
 }
 
 fn advance(session: &mut Session, ticks: u64) -> Answer {

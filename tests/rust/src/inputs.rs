@@ -7,10 +7,11 @@ use crate::runs::{extend, Style};
 use crate::specification::plain;
 use crate::table::{self, admit_rows, Row, HORIZON, ROW_LIMIT};
 use crate::tables::{
-    admitted, admitted_as, any_rows, full_rows, light_rows, long_busy_rows, small_rows,
+    admitted, admitted_as, any_rows, full_rows, light_rows, long_busy_rows, roomy_rows, small_rows,
     staggered_rows, RowMaker,
 };
-use crate::text::{Command, INPUT_LIMIT, WORD_LIMIT};
+use crate::text::{Command, Machine, INPUT_LIMIT, WORD_LIMIT};
+use crate::words::more_words;
 
 /// A kind of input: its name, its share of all inputs, its maker.
 pub struct Kind {
@@ -33,6 +34,8 @@ pub const KINDS: &[Kind] = &[
     kind("tight-ties", 120, tight_ties),
     kind("gifts", 300, loose_gifts),
     kind("tight-gifts", 60, tight_gifts),
+    kind("draws", 300, long_draws),
+    kind("word-lists", 20, word_lists),
     kind("damaged", 150, damaged_run),
     kind("numbers", 60, odd_number),
     kind("noise", 30, noise),
@@ -158,6 +161,39 @@ fn tight_gifts(rng: &mut Rng) -> Vec<u8> {
 /// A short run in which finishes give.
 pub fn short_gifts(rng: &mut Rng) -> Vec<u8> {
     giving_run(rng, table::Kind::Loose, 60)
+}
+
+/// A run in which words lie near the limits of draws.
+fn drawing_run(rng: &mut Rng, most_steps: u32) -> Vec<u8> {
+    let mut driver = Driver::new(&roomy_rows(rng));
+    let style = Style::drawing(rng);
+    let steps = rng.between(20, most_steps) as usize;
+    extend(&mut driver, rng, style, steps);
+    driver.text
+}
+
+fn long_draws(rng: &mut Rng) -> Vec<u8> {
+    drawing_run(rng, 200)
+}
+
+/// A short run in which words lie near the limits of draws.
+pub fn short_draws(rng: &mut Rng) -> Vec<u8> {
+    drawing_run(rng, 40)
+}
+
+/// Choices between which many words are queued, most of them to be passed over.
+fn word_lists(rng: &mut Rng) -> Vec<u8> {
+    let mut driver = Driver::new(&roomy_rows(rng));
+    let style = Style::drawing(rng);
+    for _ in 0..rng.between(1, 12) {
+        extend(&mut driver, rng, style, 20);
+        let Machine { session, words } = &driver.machine;
+        for word in more_words(rng, session, words) {
+            driver.push(Command::Word(word));
+        }
+        driver.push(Command::Choose);
+    }
+    driver.text
 }
 
 fn long_run(rng: &mut Rng) -> Vec<u8> {
@@ -337,24 +373,31 @@ fn word_limit(rng: &mut Rng) -> Vec<u8> {
     let mut driver = Driver::new(&[Row::from([20, 900, 900]), Row::from([30, 999, 950])]);
     driver.push(Command::Arrive(0));
     driver.push(Command::Arrive(1));
+    let passed = rng.pick(&[0, 0, 4, 7, 8]);
     let count = rng.pick(&[10, WORD_LIMIT - 1, WORD_LIMIT]);
-    queue_up_to(&mut driver, rng, count);
+    queue_up_to(&mut driver, rng, count, passed);
     for _ in 0..rng.below(4) {
         driver.push(Command::Choose);
         driver.push(Command::Advance(1));
-        queue_up_to(&mut driver, rng, count);
+        queue_up_to(&mut driver, rng, count, passed);
     }
     let count = rng.pick(&[WORD_LIMIT - 1, WORD_LIMIT, WORD_LIMIT + 1]);
-    queue_up_to(&mut driver, rng, count);
+    queue_up_to(&mut driver, rng, count, passed);
     let style = Style::random(rng);
     extend(&mut driver, rng, style, 10);
     driver.text
 }
 
-/// Queues the words missing to `count`, even where the last is unreadable.
-fn queue_up_to(driver: &mut Driver, rng: &mut Rng, count: usize) {
+/// Queues the words missing to `count`, even where the last is unreadable. Out of 8
+/// `passed` are such that a draw between three candidates passes them over.
+fn queue_up_to(driver: &mut Driver, rng: &mut Rng, count: usize, passed: usize) {
     for _ in driver.machine.words.len()..count {
-        driver.push(Command::Word(rng.between(0, 9)));
+        let word = if rng.chance(passed, 8) {
+            u32::MAX
+        } else {
+            rng.between(0, 9)
+        };
+        driver.push(Command::Word(word));
     }
 }
 

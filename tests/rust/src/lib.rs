@@ -4,6 +4,7 @@
 pub mod batches;
 pub mod calls;
 pub mod damage;
+pub mod draws;
 pub mod driver;
 pub mod gifts;
 pub mod hard;
@@ -28,3 +29,4 @@ pub mod tables;
 pub mod tally;
 pub mod text;
 pub mod ties;
+pub mod words;

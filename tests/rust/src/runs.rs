@@ -6,6 +6,7 @@ use crate::rng::Rng;
 use crate::session::{Choice, Session, IDLE};
 use crate::table::HORIZON;
 use crate::text::{Command, Machine};
+use crate::words::next_word;
 
 /// How a run is made up.
 #[derive(Clone, Copy, Debug)]
@@ -21,6 +22,9 @@ pub struct Style {
     /// Out of 8 of the steps that are still left, how many are made so that a
     /// finish has later jobs to give to, and a choice comes after it.
     pub gifts: usize,
+    /// Out of 8 of the steps that are left then, how many are made so that words
+    /// lie near the limits of the draws to come.
+    pub draws: usize,
     /// Out of 8 steps at which a chosen job may go on, how many finish it.
     pub finishes: usize,
 }
@@ -33,6 +37,7 @@ impl Style {
             words: rng.pick(&[0, 2, 6]),
             meetings: rng.pick(&[0, 0, 0, 4]),
             gifts: 0,
+            draws: 0,
             finishes: rng.pick(&[1, 1, 4]),
         }
     }
@@ -54,6 +59,16 @@ impl Style {
             ..Style::random(rng)
         }
     }
+
+    /// A style in which most words lie near the limits of draws.
+    pub fn drawing(rng: &mut Rng) -> Self {
+        Style {
+            words: rng.pick(&[0, 0, 2]),
+            meetings: 0,
+            draws: rng.pick(&[6, 7, 8]),
+            ..Style::random(rng)
+        }
+    }
 }
 
 /// Extends an input by random calls.
@@ -67,24 +82,29 @@ pub fn extend(driver: &mut Driver, rng: &mut Rng, style: Style, steps: usize) {
 pub fn random_command(machine: &Machine, rng: &mut Rng, style: Style) -> Command {
     // Words that no choice uses must not reach the limit by chance.
     if machine.words.len() < 32 && rng.chance(style.words, 16) {
-        Command::Word(random_word(rng))
+        Command::Word(random_word(machine, rng))
     } else if rng.chance(style.refused, 16) {
         doubtful_call(&machine.session, rng)
     } else if rng.chance(style.meetings, 8) {
         timed_command(machine, rng, style)
     } else if rng.chance(style.gifts, 8) {
         giving_command(machine, rng)
+    } else if rng.chance(style.draws, 8) {
+        drawing_command(machine, rng, style)
     } else {
         accepted_call(&machine.session, rng, style)
     }
 }
 
-fn random_word(rng: &mut Rng) -> u32 {
-    match rng.below(4) {
+/// A word of any size, now and then near the limit of a draw to come.
+fn random_word(machine: &Machine, rng: &mut Rng) -> u32 {
+    let Machine { session, words } = machine;
+    let near = rng.chance(1, 8).then(|| next_word(rng, session, words));
+    near.flatten().unwrap_or_else(|| match rng.below(4) {
         0 => rng.pick(&[0, 1, u32::MAX, u32::MAX - 1, 1 << 31]),
         1 => rng.draw() as u32,
         _ => rng.between(0, 20),
-    }
+    })
 }
 
 fn accepted_call(session: &Session, rng: &mut Rng, style: Style) -> Command {
@@ -173,7 +193,7 @@ fn patient_command(machine: &Machine, rng: &mut Rng) -> Command {
     if last == 0 || !words.is_empty() || rng.chance(1, 8) {
         Command::Choose
     } else if deadlines_have_met(session) && rng.chance(1, 2) {
-        Command::Word(random_word(rng))
+        Command::Word(random_word(machine, rng))
     } else {
         Command::Word(last)
     }
@@ -191,9 +211,25 @@ fn giving_command(machine: &Machine, rng: &mut Rng) -> Command {
         None if !words.is_empty() => Command::Choose,
         None => match rng.below(4) {
             0 => Command::Choose,
-            1 => Command::Word(random_word(rng)),
+            1 => Command::Word(random_word(machine, rng)),
             _ => Command::Word(candidates(session).len() as u32 - 1),
         },
+    }
+}
+
+/// A command on the way to a choice whose words lie near the limits of its draws,
+/// with many candidates.
+fn drawing_command(machine: &Machine, rng: &mut Rng, style: Style) -> Command {
+    let Machine { session, words } = machine;
+    let ready = ready_rows(session);
+    if !ready.is_empty() && rng.chance(3, 4) {
+        return Command::Arrive(rng.pick(&ready));
+    }
+    let has_room = session.choice.is_none() && words.len() < 32;
+    let word = has_room.then(|| next_word(rng, session, words)).flatten();
+    match word {
+        Some(word) if rng.chance(3, 4) => Command::Word(word),
+        _ => run_or_choose(session, rng, style),
     }
 }
 

@@ -4,13 +4,15 @@ use crate::rng::Rng;
 use crate::session::{Choice, Job, Session, Slot, CLOCK_END, IDLE};
 use crate::table::{admit_rows, Row, HORIZON};
 use crate::tables::{
-    admitted, full_rows, light_rows, small_rows, staggered_rows, urgent_rows, RowMaker,
+    admitted, full_rows, light_rows, roomy_rows, small_rows, staggered_rows, urgent_rows, RowMaker,
 };
 
 /// An admitted table whose soundness the model decides quickly.
 pub fn random_table(rng: &mut Rng) -> Vec<Row> {
-    let makers: [RowMaker; 6] = [
+    let makers: [RowMaker; 8] = [
         light_rows,
+        roomy_rows,
+        roomy_rows,
         small_rows,
         small_rows,
         full_rows,
@@ -36,6 +38,9 @@ pub fn sound_session(rng: &mut Rng) -> Session {
     }
     if rng.chance(1, 2) {
         tie(rng, &mut session);
+    }
+    if rng.chance(1, 4) {
+        let_all_wait(rng, &mut session);
     }
     if rng.chance(1, 2) {
         let choice = sound_choice(rng, &session);
@@ -110,6 +115,22 @@ fn tie(rng: &mut Rng, session: &mut Session) {
     let due = session.clock + edge(rng, 1, u64::from(shortest));
     for row in rows {
         session.slots[row] = waiting_slot(rng, session, row, due);
+    }
+}
+
+/// Lets a job of each row wait, with a budget of at least 1 where that can be: then
+/// all of them and idle are candidates.
+fn let_all_wait(rng: &mut Rng, session: &mut Session) {
+    for row in 0..session.rows.len() {
+        let deadline = u64::from(session.rows[row].deadline);
+        let due = session.clock + edge(rng, 1, deadline);
+        let waiting = session.slots[row].job;
+        let due = waiting.map_or(due, |job| job.due);
+        session.slots[row] = waiting_slot(rng, session, row, due);
+        let limit = session.budget_limit(row);
+        if let Some(job) = &mut session.slots[row].job {
+            job.budget = job.budget.max(1).min(limit);
+        }
     }
 }
 

@@ -1,6 +1,7 @@
 //! The specification's own examples, moments at which equal deadlines go by who
-//! came first (change request 01), and moments at which unused time goes to the
-//! jobs behind (change request 02).
+//! came first (change request 01), moments at which unused time goes to the jobs
+//! behind (change request 02), and moments at which words are passed over (change
+//! request 04).
 
 use crate::table::Row;
 
@@ -109,6 +110,11 @@ pub fn ties() -> Vec<(String, String)> {
 /// The inputs in which jobs finish early, each with its output.
 pub fn gifts() -> Vec<(String, String)> {
     whole(GIFTS)
+}
+
+/// The inputs in which words are passed over, or nearly, each with its output.
+pub fn draws() -> Vec<(String, String)> {
+    whole(DRAWS)
 }
 
 const TIES: &[Moment] = &[
@@ -279,5 +285,87 @@ const GIFTS: &[Moment] = &[
         input: "T 1 2 2/T 2 4 4/A 0/A 1/W 1/G/F/",
         output: "0 M 0 2 2/0 B 0 0 -1/0 B 0 1 0/0 A 0 0 2/0 A 0 1 4/0 G 0 0 1/0 F 0 0 1/",
         ends: &[["G/", "0 G 0 1 2/"]],
+    },
+];
+
+const DRAWS: &[Moment] = &[
+    // Five candidates: 4294967295 is passed over. So it is for the 3 lengths of
+    // row 1 and the 5 of row 3; for the 6 of idle all from 4294967292 on are.
+    Moment {
+        input: "T 4 100 20/T 3 100 30/T 2 100 40/T 5 100 50/A 0/A 1/A 2/A 3/",
+        output: "0 M 0 1 4/0 B 0 0 6/0 B 0 1 16/0 B 0 2 26/0 B 0 3 36/\
+            0 A 0 0 20/0 A 0 1 30/0 A 0 2 40/0 A 0 3 50/",
+        ends: &[
+            ["W 4294967294/W 1/G/", "0 G 0 16 2/"],
+            ["W 4294967295/W 1/W 1/G/", "0 G 0 1 2/"],
+            ["W 4294967295/G/", "0 G 0 0 4/"],
+            // All are used, so that the next choice has no word.
+            [
+                "W 4294967295/W 4294967295/G/F/G/",
+                "0 G 0 0 4/0 F 0 0 4/0 G 0 1 3/",
+            ],
+            [
+                "W 1/W 4294967295/G/R 3/W 1/G/",
+                "0 G 0 1 3/3 R 0 0 1/3 G 0 2 2/",
+            ],
+            ["W 4/W 4294967291/W 0/G/", "0 G 0 16 6/"],
+            ["W 4/W 4294967292/W 0/G/", "0 G 0 16 1/"],
+            [
+                "W 4/W 4294967292/W 4294967295/W 4294967293/G/",
+                "0 G 0 16 6/",
+            ],
+            // The first choice uses five words. Row 0 then has 3 left of its budget.
+            [
+                "W 4294967295/W 3/W 4294967295/W 4294967295/W 2/W 4294967295/W 1/W 1/G/R 3/G/",
+                "0 G 0 3 3/3 R 0 0 0/3 G 0 1 2/",
+            ],
+            // A refused choice uses none. Between four no word is passed over.
+            [
+                "W 1/W 2/G/W 4294967295/W 1/G/R 3/G/",
+                "0 G 0 1 3/0 G 8 3 0/3 R 0 0 1/3 G 0 16 2/",
+            ],
+        ],
+    },
+    // 17 candidates, and 83 lengths of idle: 51,746,593 times that is 4294967219.
+    Moment {
+        input: "T 1 99 99/T 1 99 99/T 1 99 99/T 1 99 99/T 1 99 99/T 1 99 99/T 1 99 99/T 1 99 99/\
+            T 1 99 99/T 1 99 99/T 1 99 99/T 1 99 99/T 1 99 99/T 1 99 99/T 1 99 99/T 1 99 99/\
+            A 0/A 1/A 2/A 3/A 4/A 5/A 6/A 7/A 8/A 9/A 10/A 11/A 12/A 13/A 14/A 15/",
+        output: "0 M 0 1 16/0 B 0 0 83/0 B 0 1 83/0 B 0 2 83/0 B 0 3 83/0 B 0 4 83/0 B 0 5 83/\
+            0 B 0 6 83/0 B 0 7 83/0 B 0 8 83/0 B 0 9 83/0 B 0 10 83/0 B 0 11 83/0 B 0 12 83/\
+            0 B 0 13 83/0 B 0 14 83/0 B 0 15 83/0 A 0 0 99/0 A 0 1 99/0 A 0 2 99/0 A 0 3 99/\
+            0 A 0 4 99/0 A 0 5 99/0 A 0 6 99/0 A 0 7 99/0 A 0 8 99/0 A 0 9 99/0 A 0 10 99/\
+            0 A 0 11 99/0 A 0 12 99/0 A 0 13 99/0 A 0 14 99/0 A 0 15 99/",
+        ends: &[
+            ["W 4294967293/W 9/G/", "0 G 0 15 1/"],
+            [
+                "W 4294967295/W 4294967294/W 4294967219/W 84/G/",
+                "0 G 0 16 2/",
+            ],
+        ],
+    },
+    // Idle has 999,999 lengths: 4,294 times that is 4293995706.
+    Moment {
+        input: "T 1 1000000 1000000/A 0/W 1/",
+        output: "0 M 0 1 1/0 B 0 0 999999/0 A 0 0 1000000/",
+        ends: &[
+            ["W 4293995705/W 0/G/", "0 G 0 16 999999/"],
+            ["W 4293995706/W 0/G/", "0 G 0 16 1/"],
+            ["W 4294967295/W 4294000000/W 41/G/", "0 G 0 16 42/"],
+            ["W 4294967295/G/", "0 G 0 16 999999/"],
+        ],
+    },
+    // Row 1 has one length, for which any word is used.
+    Moment {
+        input: "T 1 100 20/T 1 100 30/A 0/A 1/W 1/W 4294967295/W 1/W 5/G/R 1/",
+        output: "0 M 0 1 2/0 B 0 0 18/0 B 0 1 28/0 A 0 0 20/0 A 0 1 30/0 G 0 1 1/1 R 0 0 1/",
+        ends: &[["G/", "1 G 0 16 6/"]],
+    },
+    // While nothing waits idle is the only candidate, and no word is looked at.
+    Moment {
+        input: "T 4 100 20/T 3 100 30/W 1/W 4294967295/W 1/G/R 5/A 0/A 1/",
+        output: "0 M 0 1 2/0 B 0 0 13/0 B 0 1 23/0 G 0 16 1000000/5 R 0 999995 0/\
+            5 A 0 0 25/5 A 0 1 35/",
+        ends: &[["G/", "5 G 0 1 2/"]],
     },
 ];

@@ -39,6 +39,21 @@ pub fn light_rows(rng: &mut Rng) -> Vec<Row> {
         .collect()
 }
 
+/// Rows of large budgets, always loose, so that all of them and idle are often
+/// candidates, and lengths of spans are of every size.
+pub fn roomy_rows(rng: &mut Rng) -> Vec<Row> {
+    let count = rng.between(1, ROW_LIMIT as u32);
+    let longest = rng.pick(&[200, 10_000, LONGEST]);
+    (0..count)
+        .map(|_| {
+            let period = rng.between(longest / 2, longest);
+            let run = rng.between(1, (period / (8 * count)).max(1));
+            let deadline = rng.between(period - period / 4, period);
+            row(run, period, deadline)
+        })
+        .collect()
+}
+
 /// Few rows of small numbers, so that deadlines and arrivals often coincide.
 pub fn small_rows(rng: &mut Rng) -> Vec<Row> {
     let count = rng.between(1, 5);

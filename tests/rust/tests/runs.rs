@@ -1,5 +1,6 @@
 //! Random lists of calls against the specification's ledger.
 
+use shuffle_model::draws::Draws;
 use shuffle_model::driver::Driver;
 use shuffle_model::gifts::Gifts;
 use shuffle_model::rng::Rng;
@@ -7,7 +8,7 @@ use shuffle_model::runs::{random_command, Style};
 use shuffle_model::session::{Session, IDLE};
 use shuffle_model::table::{Kind, Row};
 use shuffle_model::tables::{
-    admitted, full_rows, light_rows, small_rows, staggered_rows, RowMaker,
+    admitted, full_rows, light_rows, roomy_rows, small_rows, staggered_rows, RowMaker,
 };
 use shuffle_model::text::{Command, Outcome};
 use shuffle_model::ties::Ties;
@@ -116,20 +117,23 @@ fn check_gains(before: &Session, after: &Session, [row, unused]: [u64; 2]) {
 }
 
 /// What a run reached.
+#[derive(Default)]
 struct Reached {
     ties: Ties,
     gifts: Gifts,
+    draws: Draws,
 }
 
 /// Runs random calls and checks ledger and session after each.
 fn check_run(rng: &mut Rng, rows: &[Row], style: Style, steps: usize) -> Reached {
     let mut driver = Driver::new(rows);
     let mut ledger = Ledger::new(rows);
-    let (mut ties, mut gifts) = (Ties::default(), Gifts::default());
+    let mut reached = Reached::default();
     for _ in 0..steps {
         let command = random_command(&driver.machine, rng, style);
-        ties.watch(&driver.machine, command);
-        gifts.watch(&driver.machine, command);
+        reached.ties.watch(&driver.machine, command);
+        reached.gifts.watch(&driver.machine, command);
+        reached.draws.watch(&driver.machine, command);
         let before = driver.machine.session.clone();
         if let Outcome::Answered(_, answer) = driver.push(command) {
             if answer.number == 0 {
@@ -147,7 +151,7 @@ fn check_run(rng: &mut Rng, rows: &[Row], style: Style, steps: usize) -> Reached
         assert_eq!(driver.machine.session.in_order(), ledger.order(), "{text}");
         assert!(ledger.no_job_is_late(), "{text}");
     }
-    Reached { ties, gifts }
+    reached
 }
 
 /// Checks runs, and gives what each of them reached.
@@ -190,6 +194,13 @@ fn no_job_is_late_where_finishes_give() {
         let several = runs.iter().filter(|run| run.gifts.several).count();
         assert!(several > 20, "{several} of 200 give to a job twice");
     }
+}
+
+#[test]
+fn no_job_is_late_where_words_are_passed_over() {
+    let runs = check_runs(roomy_rows, Style::drawing, 300);
+    let passed = runs.iter().filter(|run| run.draws.passed).count();
+    assert!(passed > 200, "{passed} of 300 pass a word over");
 }
 
 #[test]

@@ -1,7 +1,8 @@
 //! The parts that the comparing tools rest on.
 
 use shuffle_model::batches::{Batch, BatchTally};
-use shuffle_model::calls::{perform, Call};
+use shuffle_model::calls::{candidates, limit, perform, Call};
+use shuffle_model::draws::{Among, DrawTally, Drawn, DrawnChoices, Draws};
 use shuffle_model::gifts::{shares, FinishTally, GiftTally, Gifts, Share};
 use shuffle_model::hard::{full_to, full_to_one, mutant, utilisation, with_longer_deadlines};
 use shuffle_model::inputs::random_input;
@@ -9,11 +10,12 @@ use shuffle_model::rng::Rng;
 use shuffle_model::session::{Choice, Session, IDLE};
 use shuffle_model::sessions::sound_session;
 use shuffle_model::shrink::shrink;
-use shuffle_model::specification::{gifts, listing, plain, ties};
+use shuffle_model::specification::{draws, gifts, listing, plain, ties};
 use shuffle_model::table::{admit, Row, ROW_LIMIT};
 use shuffle_model::tally::Tally;
 use shuffle_model::text::{run, run_watched};
 use shuffle_model::ties::{TieTally, TiedChoices, Ties};
+use shuffle_model::words::{more_words, next_word};
 
 #[test]
 fn shrinking_finds_the_shortest_input() {
@@ -117,12 +119,14 @@ fn ties_count_where_arrival_decides_against_the_row_number() {
 
 #[test]
 fn watching_changes_no_output() {
-    for (input, output) in ties().into_iter().chain(gifts()) {
+    for (input, output) in ties().into_iter().chain(gifts()).chain(draws()) {
         assert_eq!(run(input.as_bytes()), output.as_bytes());
         let (mut ties, mut gifts) = (Ties::default(), Gifts::default());
+        let mut draws = Draws::default();
         let watched = run_watched(input.as_bytes(), |machine, command| {
             ties.watch(machine, command);
             gifts.watch(machine, command);
+            draws.watch(machine, command);
         });
         assert_eq!(watched, output.as_bytes());
     }
@@ -383,6 +387,203 @@ fn too_few_batches_of_a_sort_are_named() {
     let text = tally.to_string();
     assert!(text.starts_with("of 1 batches 0 are empty, 0 have 1 record, 1 have 2 to 15, "));
     assert!(text.ends_with("; their records are answered 0:1 5:0 6:2 7:1"));
+}
+
+/// The sorts of choices by their draws.
+const DRAWS: [&str; 14] = [
+    "pass a word over in the pick",
+    "pass a word over in the span",
+    "pass words over in both",
+    "pass over several in one draw",
+    "pass over 20 or more in one draw",
+    "run out of words in the pick",
+    "run out of words in the span",
+    "take the word below the limit in the pick",
+    "take the word below the limit in the span",
+    "pass over the word at the limit in the pick",
+    "pass over the word at the limit in the span",
+    "take the greatest word of all",
+    "use a word for the only length",
+    "leave words after they passed some over",
+];
+
+/// A fresh session of these rows at which a job of each has arrived.
+fn arrived(rows: &[[u32; 3]]) -> Session {
+    let mut session = Session::new(admit(&rows.concat()).unwrap());
+    for row in 0..rows.len() as u32 {
+        assert_eq!(perform(&mut session, Call::Arrive(row)).number, 0);
+    }
+    session
+}
+
+/// The sorts that a choice is of, by their places above.
+fn draw_sorts(session: &Session, words: &[u32]) -> Vec<usize> {
+    let mut choices = DrawnChoices::default();
+    choices.add(&Drawn::new(session, words));
+    let gaps = choices.gaps(Among::Calls(1));
+    let is_missing = |sort: usize| {
+        let start = format!("0 choices {} (", DRAWS[sort]);
+        gaps.iter().any(|gap| gap.starts_with(&start))
+    };
+    let sorts = 0..DRAWS.len();
+    sorts.filter(|sort| !is_missing(*sort)).collect()
+}
+
+#[test]
+fn choices_count_by_their_draws() {
+    // Between 5 candidates, and 3 lengths of row 1, 2 of row 2, 6 of idle.
+    let rows = [[4, 100, 20], [3, 100, 30], [2, 100, 40], [5, 100, 50]];
+    let session = arrived(&rows);
+    let sorts = |words: &[u32]| draw_sorts(&session, words);
+    let last = u32::MAX;
+    let none: [usize; 0] = [];
+    for words in [&[][..], &[0], &[1], &[1, 1], &[1, 1, last], &[last - 2]] {
+        assert_eq!(sorts(words), none, "{words:?}");
+    }
+    assert_eq!(sorts(&[last]), [0, 5, 9]);
+    assert_eq!(sorts(&[last, 1]), [0, 9]);
+    assert_eq!(sorts(&[last, 1, 1]), [0, 9]);
+    assert_eq!(sorts(&[last, last, 1, 1, 7]), [0, 3, 9, 13]);
+    assert_eq!(sorts(&[last; 20]), [0, 3, 4, 5, 9]);
+    assert_eq!(sorts(&[1, last]), [1, 6, 10]);
+    assert_eq!(sorts(&[1, last, 1]), [1, 10]);
+    assert_eq!(sorts(&[last, 1, last, 1]), [0, 1, 2, 9, 10]);
+    assert_eq!(sorts(&[last - 1]), [7]);
+    assert_eq!(sorts(&[4, last - 4]), [8]);
+    assert_eq!(sorts(&[4, last - 3, 1, 1]), [1, 10, 13]);
+    assert_eq!(sorts(&[4, last - 2, 1]), [1]);
+    assert_eq!(sorts(&[2, last]), [8, 11]);
+    // One length of row 1; and one candidate.
+    let short = arrived(&[[1, 100, 20], [1, 100, 30]]);
+    assert_eq!(draw_sorts(&short, &[1]), none);
+    assert_eq!(draw_sorts(&short, &[1, 7]), [12]);
+    assert_eq!(draw_sorts(&short, &[1, last]), [8, 11, 12]);
+    let tight = arrived(&[[1, 2, 2], [2, 4, 4]]);
+    assert_eq!(draw_sorts(&tight, &[last, last]), none);
+}
+
+#[test]
+fn too_few_draws_are_named() {
+    let tally = DrawTally::default();
+    assert_eq!(tally.gaps().len(), 16 + 1, "of no inputs none is too rare");
+    let mut tally = DrawTally::default();
+    tally.add(&Draws::default());
+    let gaps = tally.gaps();
+    assert_eq!(gaps.len(), 2 + DRAWS.len() + 16 + 1);
+    let expected = [
+        (0, "0 of 1 inputs pass a word over (fewer than one in 8)"),
+        (
+            4,
+            "0 choices pass words over in both (fewer than one in 20 inputs)",
+        ),
+        (16, "no pick between 2 came near its limit"),
+        (31, "no pick between 17 came near its limit"),
+        (
+            32,
+            "words were passed over between 0 numbers of lengths (fewer than 1000)",
+        ),
+    ];
+    for (place, gap) in expected {
+        assert_eq!(gaps[place], gap);
+    }
+    let gaps = DrawnChoices::default().gaps(Among::Calls(1));
+    assert_eq!(
+        gaps[2],
+        "0 choices pass words over in both (fewer than one in 2000 calls)"
+    );
+}
+
+/// Whether an input passes a word over, and whether it shows it.
+fn draws_of(input: &str) -> (bool, bool) {
+    let mut draws = Draws::default();
+    let input = plain(input).into_bytes();
+    let output = run_watched(&input, |machine, command| draws.watch(machine, command));
+    draws.compare(&input, &output);
+    (draws.passed, draws.shown)
+}
+
+#[test]
+fn draws_count_where_a_word_is_passed_over() {
+    // Five candidates, and 6 lengths of idle.
+    let start = "T 4 100 20/T 3 100 30/T 2 100 40/T 5 100 50/A 0/A 1/A 2/A 3/";
+    let go_on = |end: &str| draws_of(&format!("{start}{end}"));
+    for end in [
+        "",
+        "G/",
+        "W 4294967295/",
+        "W 4294967294/W 4294967291/G/",
+        "W 0/W 4294967295/G/",
+    ] {
+        assert_eq!(go_on(end), (false, false), "{end}");
+    }
+    // 4294967295 is 5 × 858993459 and so the head by its remainder; 4294967292 is
+    // a multiple of 6, and so the first length.
+    for end in ["W 4294967295/G/", "W 4/W 4294967292/W 0/G/"] {
+        assert_eq!(go_on(end), (true, false), "{end}");
+    }
+    for end in [
+        "W 4294967295/W 1/G/",
+        "W 4294967295/W 4294967295/G/R 4/G/",
+        "W 4/W 4294967292/G/",
+        "W 4/W 4294967292/W 1/G/",
+    ] {
+        assert_eq!(go_on(end), (true, true), "{end}");
+    }
+    // A refused choice passes no word over.
+    assert_eq!(go_on("G/W 4294967295/G/"), (false, false));
+}
+
+#[test]
+fn words_lie_on_both_sides_of_the_limit() {
+    // 7 candidates: the last 4 words are passed over.
+    let session = arrived(&[[1, 100, 100]; 6]);
+    let mut rng = Rng::new(10);
+    let limit = limit(7);
+    let mut seen = [0; 6];
+    for _ in 0..1_000 {
+        let word = u64::from(next_word(&mut rng, &session, &[]).unwrap());
+        let places = [limit - 2, limit - 1, limit, limit + 1, limit + 2, limit + 3];
+        for (seen, place) in seen.iter_mut().zip(places) {
+            *seen += u32::from(word == place);
+        }
+    }
+    assert!(seen.iter().all(|seen| *seen > 10), "{seen:?}");
+    // Behind words that do not decide, those of a span that is open, and none where
+    // nothing is drawn.
+    let single = arrived(&[[1, 1_000_000, 1_000_000]]);
+    let near = |words: &[u32]| next_word(&mut Rng::new(1), &single, words);
+    assert_eq!(near(&[1, u32::MAX]), near(&[1]));
+    assert_ne!(near(&[]), near(&[1]));
+    let tight = arrived(&[[1, 2, 2], [2, 4, 4]]);
+    assert_eq!(next_word(&mut rng, &tight, &[]), None);
+}
+
+#[test]
+fn more_words_decide_a_choice_or_run_out() {
+    let mut rng = Rng::new(11);
+    let mut longest = 0;
+    for _ in 0..2_000 {
+        let session = sound_session(&mut rng);
+        let queue: Vec<u32> = (0..rng.below(2)).map(|_| rng.draw() as u32).collect();
+        let words = more_words(&mut rng, &session, &queue);
+        let all = [queue, words].concat();
+        let drawn = Drawn::new(&session, &all);
+        if drawn.pick.is_some() {
+            longest = longest.max(all.len() - drawn.rest.len());
+            assert!(drawn.rest.len() <= 2, "{session:?} {all:?}");
+        }
+    }
+    assert!(longest > 300, "{longest}");
+}
+
+#[test]
+fn sound_sessions_have_every_number_of_candidates() {
+    let mut rng = Rng::new(12);
+    let mut seen = [0; ROW_LIMIT + 2];
+    for _ in 0..10_000 {
+        seen[candidates(&sound_session(&mut rng)).len()] += 1;
+    }
+    assert!(seen[1..].iter().all(|seen| *seen > 10), "{seen:?}");
 }
 
 #[test]

@@ -7,6 +7,7 @@ use std::path::Path;
 use std::process::{self, Stdio};
 use std::time::Instant;
 
+use shuffle_model::calls::{lengths, limit, WORDS};
 use shuffle_model::driver::Driver;
 use shuffle_model::options::{fail, Options};
 use shuffle_model::session::IDLE;
@@ -127,6 +128,10 @@ fn inputs() -> Vec<(&'static str, Vec<u8>)> {
             "16 rows loose, short spans",
             build(&loose, Kind::Loose, short_span),
         ),
+        (
+            "16 rows loose, words passed over",
+            build(&loose, Kind::Loose, short_span_after_others),
+        ),
         ("16 rows tight", build(&tight, Kind::Tight, whole_span)),
         (
             "6 rows tight, long busy length",
@@ -172,13 +177,27 @@ fn advance(driver: &mut Driver) {
 
 /// Words that take the last candidate for one tick, while budgets last.
 fn short_span(driver: &mut Driver) {
+    span_of_idle(driver, 0);
+}
+
+/// The same, with others before each of the two words that are passed over.
+fn short_span_after_others(driver: &mut Driver) {
+    span_of_idle(driver, 4);
+}
+
+fn span_of_idle(driver: &mut Driver, passed: usize) {
     arrivals(driver);
     let session = &driver.machine.session;
     let waiting = session.waiting().count() as u32;
-    let can_wait = session.waiting().all(|job| job.budget >= 1);
-    if waiting > 0 && can_wait {
-        driver.push(Command::Word(waiting));
-        driver.push(Command::Word(0));
+    // None if nothing waits, and 0 if idle is no candidate.
+    if let Some(lengths @ 1..) = lengths(session, IDLE) {
+        for (count, word) in [(waiting + 1, waiting), (lengths, 0)] {
+            let passed = if limit(count) < WORDS { passed } else { 0 };
+            for _ in 0..passed {
+                driver.push(Command::Word(u32::MAX));
+            }
+            driver.push(Command::Word(word));
+        }
     }
     driver.push(Command::Choose);
     advance(driver);

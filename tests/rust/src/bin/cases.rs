@@ -8,15 +8,16 @@ use std::io;
 use std::path::Path;
 
 use shuffle_model::damage::DAMAGES;
+use shuffle_model::draws::Draws;
 use shuffle_model::driver::table_text;
 use shuffle_model::gifts::Gifts;
 use shuffle_model::inputs::{
-    full_run, light_run, odd_number_input, short_gifts, short_run, short_ties, small_run,
-    ODD_LINES, ODD_NUMBERS, SPECIALS,
+    full_run, light_run, odd_number_input, short_draws, short_gifts, short_run, short_ties,
+    small_run, ODD_LINES, ODD_NUMBERS, SPECIALS,
 };
 use shuffle_model::options::fail;
 use shuffle_model::rng::Rng;
-use shuffle_model::specification::{gifts, listing, plain, ties, EXAMPLES};
+use shuffle_model::specification::{draws, gifts, listing, plain, ties, EXAMPLES};
 use shuffle_model::table::{admit_rows, compared_range, overloads_by_scan, Row};
 use shuffle_model::tables::{light_rows, urgent_rows, RowMaker};
 use shuffle_model::text::{leading_rows, run, run_watched};
@@ -31,6 +32,8 @@ const LONGEST_STDIN: usize = 60_000;
 const LEAST_TIES: usize = 60;
 /// So many cases must show in an answer that a finish gave to a later job.
 const LEAST_GIFTS: usize = 30;
+/// So many cases must show in an answer that a word is passed over.
+const LEAST_DRAWS: usize = 40;
 
 fn main() -> io::Result<()> {
     let arguments: Vec<String> = std::env::args().skip(1).collect();
@@ -42,6 +45,8 @@ fn main() -> io::Result<()> {
     assert!(ties >= LEAST_TIES, "{ties} cases show a tie");
     let gifts = cases.iter().filter(|case| shows_a_gift(case)).count();
     assert!(gifts >= LEAST_GIFTS, "{gifts} cases show a gift");
+    let draws = cases.iter().filter(|case| shows_a_draw(case)).count();
+    assert!(draws >= LEAST_DRAWS, "{draws} cases show a draw");
     let (stdin, stdout) = store(&cases);
     assert!(stdin.len() < LONGEST_STDIN, "{} bytes", stdin.len());
     fs::write(Path::new(directory).join("stdin"), stdin)?;
@@ -68,13 +73,14 @@ fn all_cases() -> Vec<Vec<u8>> {
     cases.extend(damaged_cases(&mut rng, 3));
     cases.retain(|case| case.len() <= LONGEST_CASE && has_one_output(case));
     while cases.len() < CASES {
-        let make = match rng.below(13) {
+        let make = match rng.below(19) {
             0 => light_run,
             1 | 2 => small_run,
             3 => full_run,
             4 => short_run,
-            5..10 => short_ties,
-            _ => short_gifts,
+            5..12 => short_ties,
+            12..16 => short_gifts,
+            _ => short_draws,
         };
         let case = make(&mut rng);
         if case.len() <= LONGEST_RANDOM_CASE && has_one_output(&case) {
@@ -95,7 +101,7 @@ fn fixed_cases() -> Vec<Vec<u8>> {
     let each_line = ODD_LINES.iter().map(|line| (line, &"4294967296"));
     let odd = each_number.chain(each_line);
     let odd = odd.map(|(line, number)| odd_number_input(line, number));
-    let moments = ties().into_iter().chain(gifts());
+    let moments = ties().into_iter().chain(gifts()).chain(draws());
     let moments = moments.map(|(input, _)| input.into_bytes());
     let fixed = listing.chain(tables).chain(texts).chain(many_rows);
     fixed.chain(odd).chain(moments).collect()
@@ -122,6 +128,13 @@ fn shows_a_gift(case: &[u8]) -> bool {
     let output = run_watched(case, |machine, command| gifts.watch(machine, command));
     gifts.compare(case, &output);
     gifts.shown
+}
+
+fn shows_a_draw(case: &[u8]) -> bool {
+    let mut draws = Draws::default();
+    let output = run_watched(case, |machine, command| draws.watch(machine, command));
+    draws.compare(case, &output);
+    draws.shown
 }
 
 /// Whether the output is determined: refusal 3 may name any overloaded tick.

@@ -5,6 +5,7 @@ use std::sync::atomic::{AtomicBool, AtomicU64, Ordering};
 use std::thread;
 use std::time::Instant;
 
+use shuffle_model::draws::{DrawTally, Draws};
 use shuffle_model::gifts::{GiftTally, Gifts};
 use shuffle_model::inputs::{random_input, KINDS};
 use shuffle_model::options::{fail, Options};
@@ -18,7 +19,8 @@ use shuffle_model::ties::{TieTally, Ties};
 
 const THREADS: usize = 2;
 /// From this many inputs on, every reachable answer must have been reached, and
-/// ties that arrival decides and finishes that give must be many enough.
+/// ties that arrival decides, finishes that give and draws that pass words over
+/// must be many enough.
 const FULL_COUNT: u64 = 20_000;
 const DEFAULT_SEED: u64 = 20_250_301;
 
@@ -44,6 +46,7 @@ fn main() {
     let mut gaps = report.answers.gaps();
     gaps.extend(report.ties.gaps());
     gaps.extend(report.gifts.gaps());
+    gaps.extend(report.draws.gaps());
     if count >= FULL_COUNT && !gaps.is_empty() {
         println!("FAILED: {}", gaps.join(", "));
         exit(1);
@@ -94,11 +97,14 @@ impl<'a> Shared<'a> {
             let (kind, input) = random_input(&mut Rng::for_case(self.seed, case));
             let mut ties = Ties::default();
             let mut gifts = Gifts::default();
+            let mut draws = Draws::default();
             let expected = run_watched(&input, |machine, command| {
                 ties.watch(machine, command);
                 gifts.watch(machine, command);
+                draws.watch(machine, command);
             });
             gifts.compare(&input, &expected);
+            draws.compare(&input, &expected);
             if fault(self.program, &input, &expected).is_some() {
                 report.disagreement = Some(case);
                 self.stop.store(true, Ordering::Relaxed);
@@ -107,6 +113,7 @@ impl<'a> Shared<'a> {
             report.answers.add(&expected);
             report.ties.add(ties);
             report.gifts.add(&gifts);
+            report.draws.add(&draws);
         }
         report
     }
@@ -118,6 +125,7 @@ struct Report {
     answers: Tally,
     ties: TieTally,
     gifts: GiftTally,
+    draws: DrawTally,
     disagreement: Option<u64>,
 }
 
@@ -129,6 +137,7 @@ impl Report {
         self.answers.merge(other.answers);
         self.ties.merge(other.ties);
         self.gifts.merge(other.gifts);
+        self.draws.merge(other.draws);
         // The lowest case, so that equal seeds show equal disagreements.
         let found = self.disagreement.into_iter().chain(other.disagreement);
         self.disagreement = found.min();
@@ -140,13 +149,14 @@ impl Report {
             .map(|(kind, inputs)| format!("{} {inputs}", kind.name))
             .collect();
         format!(
-            "{} inputs agree ({}); {} output lines; answers {}; {}; {}",
+            "{} inputs agree ({}); {} output lines; answers {}; {}; {}; {}",
             self.inputs.iter().sum::<u64>(),
             by_kind.join(", "),
             self.answers.lines(),
             self.answers,
             self.ties,
-            self.gifts
+            self.gifts,
+            self.draws
         )
     }
 }

@@ -6,6 +6,7 @@ use std::process::exit;
 use std::time::Instant;
 
 use shuffle_model::batches::{Batch, BatchTally};
+use shuffle_model::draws::{Among, Drawn, DrawnChoices};
 use shuffle_model::gifts::FinishTally;
 use shuffle_model::options::Options;
 use shuffle_model::record::{
@@ -23,18 +24,22 @@ use shuffle_model::table::Row;
 use shuffle_model::tables::{any_rows, long_busy_rows};
 use shuffle_model::text::{Command, Machine};
 use shuffle_model::ties::TiedChoices;
+use shuffle_model::words::more_words;
 
 const DEFAULT_CALLS: u64 = 1_000_000;
 const DEFAULT_SEED: u64 = 20_250_301;
 /// The answer numbers of the library: 0 to 12.
 const NUMBERS: usize = 13;
 /// From this many calls on, each sort of tie must have been reached, and each
-/// sort of finish and of batch often enough.
+/// sort of finish, of batch and of draw often enough.
 const FULL_CALLS: u64 = 1_000_000;
 /// Most calls of a history.
 const STEPS: u32 = 400;
 /// Of the steps of a history, one in so many is a batch.
 const BATCH_STEP: usize = 10;
+/// Of the choices of a history, one in so many gets a list of words near the limits
+/// of its draws.
+const LIST_STEP: usize = 4;
 
 /// Where the record of a call comes from.
 #[derive(Clone, Copy, Debug)]
@@ -62,6 +67,7 @@ fn main() {
         ties: TiedChoices::default(),
         finishes: FinishTally::default(),
         batches: BatchTally::default(),
+        draws: DrawnChoices::default(),
         one_by_one: 0,
     };
     while test.calls() < calls {
@@ -77,6 +83,7 @@ fn main() {
     let mut gaps = test.ties.gaps();
     gaps.extend(test.finishes.gaps(test.calls()));
     gaps.extend(test.batches.gaps(test.calls()));
+    gaps.extend(test.draws.gaps(Among::Calls(test.calls())));
     if calls >= FULL_CALLS && !gaps.is_empty() {
         println!("FAILED: {}", gaps.join(", "));
         exit(1);
@@ -94,6 +101,7 @@ struct Test {
     ties: TiedChoices,
     finishes: FinishTally,
     batches: BatchTally,
+    draws: DrawnChoices,
     /// Batches whose rows also arrived one by one, on a copy.
     one_by_one: u64,
 }
@@ -169,7 +177,7 @@ impl Test {
         } else {
             self.admission()
         };
-        let styles: [fn(&mut Rng) -> Style; 3] = [Style::random, Style::random, Style::giving];
+        let styles: [fn(&mut Rng) -> Style; 3] = [Style::random, Style::giving, Style::drawing];
         let style = self.rng.pick(&styles)(&mut self.rng);
         let mut queue = Vec::new();
         for _ in 0..self.rng.between(1, steps) {
@@ -207,6 +215,10 @@ impl Test {
         let machine = Machine { session, words };
         let command = random_command(&machine, &mut self.rng, style);
         *queue = machine.words;
+        if command == Command::Choose && self.rng.chance(1, LIST_STEP) {
+            let words = more_words(&mut self.rng, &machine.session, queue);
+            queue.extend(words);
+        }
         // Now and then a number of more than 32 bits.
         let wide = u64::from(self.rng.chance(1, 64)) << 32;
         let request = match command {
@@ -252,7 +264,10 @@ impl Test {
     /// Counts an accepted call.
     fn count(&mut self, before: &Record, request: &Request) {
         match (request, view(before)) {
-            (Request::Choose(words), Some(session)) => self.ties.add(&session, words),
+            (Request::Choose(words), Some(session)) => {
+                self.ties.add(&session, words);
+                self.draws.add(&Drawn::new(&session, words));
+            }
             (Request::Finish, Some(session)) => self.finishes.add(&session),
             _ => {}
         }
@@ -324,14 +339,15 @@ impl Test {
         let sources = SOURCES.map(|(source, name)| format!("{name} {}", self.calls_of(source)));
         let answers = (0..NUMBERS).map(|number| format!("{number}:{}", self.count_of(number)));
         format!(
-            "{} calls agree ({}; {} on sound records); answers {}; {}; {}; {}; the rows of {} of the \
-            batches also arrived one by one",
+            "{} calls agree ({}; {} on sound records); answers {}; {}; {}; {}; {}; the rows of {} of \
+            the batches also arrived one by one",
             self.calls(),
             sources.join(", "),
             self.sound,
             answers.collect::<Vec<_>>().join(" "),
             self.ties,
             self.finishes,
+            self.draws,
             self.batches,
             self.one_by_one
         )
@@ -346,13 +362,25 @@ fn four_calls(rng: &mut Rng, record: &Record) -> Vec<Request> {
         0 => rng.draw() % span.max(1),
         _ => around(rng, &[0, 1, span, CLOCK_END.wrapping_sub(clock), 1 << 32]),
     };
-    let words = (0..rng.below(4)).map(|_| rng.draw() as u32 >> rng.below(32));
     vec![
-        Request::Choose(words.collect()),
+        Request::Choose(words_for_choice(rng, record)),
         Request::Arrive(row),
         Request::Advance(ticks),
         Request::Finish,
     ]
+}
+
+/// A few words of every size, or if the record holds a sound session, words near the
+/// limits of its draws.
+fn words_for_choice(rng: &mut Rng, record: &Record) -> Vec<u32> {
+    let is_near = rng.chance(1, 2);
+    match view(record).filter(|session| is_near && session.is_sound()) {
+        Some(session) => more_words(rng, &session, &[]),
+        None => {
+            let words = (0..rng.below(4)).map(|_| rng.draw() as u32 >> rng.below(32));
+            words.collect()
+        }
+    }
 }
 
 fn words_of(rows: &[Row]) -> Vec<u32> {

@@ -29,6 +29,23 @@ pub const CALLS: [&str; 6] = [
     "finish head",
 ];
 
+/// Choices from lists of words, of which some or all are passed over.
+pub const CHOICES: [&str; 3] = [
+    "choose, 2 words",
+    "choose, 4 words, 2 passed over",
+    "choose, 1,000 words passed over",
+];
+
+/// The words of a choice. With 4 and with 16 loose rows the greatest word is passed
+/// over, both between the candidates and between the 20 lengths of the last row.
+fn words_for(call: &str, last: u32) -> Vec<u32> {
+    match call {
+        "choose, 4 words, 2 passed over" => vec![u32::MAX, last, u32::MAX, 7],
+        "choose, 1,000 words passed over" => vec![u32::MAX; 1_000],
+        _ => vec![last, 7],
+    }
+}
+
 /// The table of a shape with so many rows; no table of one row is tight.
 pub fn table(shape: Shape, count: u32) -> Option<Vec<Row>> {
     let others = 1..count;
@@ -92,11 +109,16 @@ impl Case {
         for row in 0..waiting {
             assert!(record.arrive(row).is_accepted());
         }
-        let draws = vec![last as u32, 7];
+        let draws = words_for(call, last as u32);
         let request = match call {
             "admit" => Request::Admit(words),
             "arrive" => Request::Arrive(last),
             "choose" => Request::Choose(draws),
+            _ if CHOICES.contains(&call) => {
+                let mut copy = record;
+                assert_eq!(copy.choose(&draws).used, draws.len() as u64, "{call}");
+                Request::Choose(draws)
+            }
             "advance" | "finish" | "finish head" => {
                 let is_head = call == "finish head";
                 let draws = if is_head { &[] } else { &draws[..] };

@@ -10,7 +10,7 @@ mod time;
 use std::collections::HashMap;
 use std::path::Path;
 
-use cases::{busy, table, Case, Shape, CALLS, SHAPES};
+use cases::{busy, table, Case, Shape, CALLS, CHOICES, SHAPES};
 use count::{functions, of_one_call, repeat, COUNTED};
 use shuffle_model::options::Options;
 use shuffle_model::record::view;
@@ -35,25 +35,40 @@ fn main() {
         return;
     }
     let scratch = Path::new(options.required("--scratch"));
-    for (shape, name, count) in tables(&ROWS) {
-        for call in CALLS {
-            check(shape, name, count, call);
-        }
+    let passing = passing_tables();
+    check_all(&tables(&ROWS), &CALLS);
+    check_all(&passing, &CHOICES);
+    for (shape, _, count) in tables(&ROWS) {
         arrivals::check(shape, count);
     }
-    let times = time_all();
+    let times = time_all(&tables(&ROWS), &CALLS);
     print_summary(&times);
-    print_times(&times);
+    print_times("Time of a call, in ns", &times);
+    let choices = time_all(&passing, &CHOICES);
+    print_times("Time of a choice that passes words over, in ns", &choices);
     arrivals::print_times();
     print_scan();
-    let counts = count_all(scratch);
-    print_counts(&counts);
+    let counts = count_all(scratch, &tables(&GROWTH), &CALLS);
+    print_counts("Instructions of a call", &counts, &tables(&ROWS), &CALLS);
+    let choices = count_all(scratch, &passing, &CHOICES);
+    let title = "Instructions of a choice that passes words over";
+    print_counts(title, &choices, &passing, &CHOICES);
     arrivals::print_counts(scratch);
     print_growth(&counts);
 }
 
+/// A table: its shape, the name of that, and its number of rows.
+type Named = (Shape, &'static str, u32);
+
+/// The tables on which the choices pass words over.
+fn passing_tables() -> Vec<Named> {
+    let mut tables = tables(&[4, 16]);
+    tables.retain(|(shape, _, _)| *shape == Shape::Loose);
+    tables
+}
+
 /// The tables with these numbers of rows.
-fn tables(rows: &[u32]) -> Vec<(Shape, &'static str, u32)> {
+fn tables(rows: &[u32]) -> Vec<Named> {
     let all = SHAPES.iter();
     all.flat_map(|(shape, name)| rows.iter().map(|count| (*shape, *name, *count)))
         .filter(|(shape, _, count)| table(*shape, *count).is_some())
@@ -67,6 +82,14 @@ fn case(shape: Shape, count: u32, call: &str) -> (Case, Session) {
     assert!(case.kind_is(shape), "{shape:?} {count}");
     let session = view(&case.record).expect("the record holds a session");
     (case, session)
+}
+
+fn check_all(tables: &[Named], calls: &[&str]) {
+    for (shape, name, count) in tables {
+        for call in calls {
+            check(*shape, name, *count, call);
+        }
+    }
 }
 
 /// All sides must give the same answer: that makes them comparable.
@@ -118,10 +141,10 @@ fn ratio([library, model]: [f64; 2]) -> f64 {
     library / model
 }
 
-fn time_all() -> Vec<Timed> {
+fn time_all(tables: &[Named], calls: &[&'static str]) -> Vec<Timed> {
     let mut all = Vec::new();
-    for (shape, name, rows) in tables(&ROWS) {
-        for call in CALLS {
+    for (shape, name, rows) in tables.iter().copied() {
+        for call in calls.iter().copied() {
             let (case, session) = case(shape, rows, call);
             let (record, request) = (&case.record, &case.request);
             let [library, model, library_core, model_core] = medians(
@@ -146,8 +169,8 @@ fn time_all() -> Vec<Timed> {
     all
 }
 
-fn print_times(all: &[Timed]) {
-    heading("Time of a call, in ns");
+fn print_times(title: &str, all: &[Timed]) {
+    heading(title);
     println!("| Table | Rows | Call | Checked | Model | Ratio | Core | Model | Ratio | Checked, of a 1 ms tick |");
     println!("|---|---:|---|---:|---:|---:|---:|---:|---:|---:|");
     for timed in all {
@@ -270,10 +293,10 @@ fn make_counted_calls(shape: Shape, count: u32, call: &str) {
     repeat(&session, COUNTED, |session| model_core(session, request));
 }
 
-fn count_all(scratch: &Path) -> Counts {
+fn count_all(scratch: &Path, tables: &[Named], calls: &[&'static str]) -> Counts {
     let mut counts = Counts::new();
-    for (shape, name, count) in tables(&GROWTH) {
-        for call in CALLS {
+    for (shape, name, count) in tables.iter().copied() {
+        for call in calls.iter().copied() {
             let shape = (shape as usize).to_string();
             let rows = count.to_string();
             let arguments = ["--shape", &shape, "--rows", &rows, "--call", call];
@@ -294,12 +317,12 @@ fn instructions(
     of_one_call(&counts[&(name, rows, call)], side)
 }
 
-fn print_counts(counts: &Counts) {
-    heading("Instructions of a call");
+fn print_counts(title: &str, counts: &Counts, tables: &[Named], calls: &[&'static str]) {
+    heading(title);
     println!("| Table | Rows | Call | Checked | Model | Ratio | Core | Model | Ratio |");
     println!("|---|---:|---|---:|---:|---:|---:|---:|---:|");
-    for (_, name, count) in tables(&ROWS) {
-        for call in CALLS {
+    for (_, name, count) in tables.iter().copied() {
+        for call in calls.iter().copied() {
             let of = |side| instructions(counts, name, count, call, side);
             let (library, model) = (of("library_checked"), of("model_checked"));
             println!(
