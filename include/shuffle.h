@@ -127,7 +127,7 @@ typedef struct shuffle_session {
     uint64_t span;                  /* its ticks left; 0: no choice is in force */
 } shuffle_session;
 
-/* An answer: its number, how many words a choice used (0 to 2; 0 for all else), and two values. */
+/* An answer: its number, how many words a choice used (0 to n; 0 for all else), and two values. */
 typedef struct shuffle_reply {
     uint64_t number; /* one of enum shuffle_number */
     uint64_t used;
@@ -164,10 +164,14 @@ shuffle_reply shuffle_arrive(shuffle_session *session, uint64_t row);
 void shuffle_arrive_all(shuffle_session *session, shuffle_arrival *list, size_t n);
 
 /*
- * Chooses what runs next, by n random words, of which the first two at most are
- * looked at. Without words the earliest deadline runs; of equal deadlines the
- * job that arrived first, and of those of one tick the lowest row. If no job
- * waits: idle, for 1,000,000 ticks. Refusals: 5, 8.
+ * Chooses what runs next, by n random words, each candidate and each length of
+ * the span equally likely. One word for the candidate and one for the span do,
+ * unless one is passed over, which happens to fewer than one in 4,000; the next
+ * is taken then. So hand in a few more than two, as four, and no word twice:
+ * the first `used` of them are used. Without words the earliest deadline runs;
+ * of equal deadlines the job that arrived first, and of those of one tick the
+ * lowest row. It runs too if no word is left to decide, and a span is then as
+ * long as it may be. If no job waits: idle, for 1,000,000 ticks. Refusals: 5, 8.
  */
 shuffle_reply shuffle_choose(shuffle_session *session, const uint32_t *words, size_t n);
 

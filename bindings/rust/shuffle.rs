@@ -97,7 +97,7 @@ pub struct Session {
 pub struct Reply {
     /// One of the numbers in `number`.
     pub number: u64,
-    /// 0 to 2 for a choice, 0 for all else.
+    /// From 0 to all words for a choice, 0 for all else.
     pub used: u64,
     /// The first value.
     pub first: u64,
@@ -229,10 +229,13 @@ impl Session {
         unsafe { shuffle_arrive_all(self, list.as_mut_ptr(), list.len()) }
     }
 
-    /// Chooses what runs next, by random words, of which the first two at most are looked at.
-    /// Without words the earliest deadline runs; of equal deadlines the job that arrived first, and
-    /// of those of one tick the lowest row. If no job waits: idle, for 1,000,000 ticks.
-    /// Refusals: 5, 8.
+    /// Chooses what runs next, by random words, each candidate and each length of the span equally
+    /// likely. One word for the candidate and one for the span do, unless one is passed over, which
+    /// happens to fewer than one in 4,000; the next is taken then. So hand in a few more than two,
+    /// as four, and no word twice: the first `used` of them are used. Without words the earliest
+    /// deadline runs; of equal deadlines the job that arrived first, and of those of one tick the
+    /// lowest row. It runs too if no word is left to decide, and a span is then as long as it may
+    /// be. If no job waits: idle, for 1,000,000 ticks. Refusals: 5, 8.
     pub fn choose(&mut self, words: &[u32]) -> Reply {
         // SAFETY: as for `replace`.
         unsafe { shuffle_choose(self, words.as_ptr(), words.len()) }

@@ -143,9 +143,11 @@ static void arrivals(struct plant *p)
 
 static void choose(struct plant *p)
 {
-    const uint64_t bits = draw(p);
-    const uint32_t words[2] = {(uint32_t)bits, (uint32_t)(bits >> 32)};
-    const shuffle_reply reply = shuffle_choose(&p->session, words, 2);
+    /* Two words do, unless some are passed over. */
+    const uint64_t a = draw(p);
+    const uint64_t b = draw(p);
+    const uint32_t words[4] = {(uint32_t)a, (uint32_t)(a >> 32), (uint32_t)b, (uint32_t)(b >> 32)};
+    const shuffle_reply reply = shuffle_choose(&p->session, words, 4);
     count(p, reply, SHUFFLE_ACCEPTED);
     p->chosen = reply.first;
     p->span = reply.second;

@@ -166,8 +166,10 @@ impl Plant {
     }
 
     fn choose(&mut self) {
-        let bits = self.draw();
-        let reply = self.session.choose(&[bits as u32, (bits >> 32) as u32]);
+        // Two words do, unless some are passed over.
+        let (a, b) = (self.draw(), self.draw());
+        let words = [a as u32, (a >> 32) as u32, b as u32, (b >> 32) as u32];
+        let reply = self.session.choose(&words);
         self.count(reply, number::ACCEPTED);
         self.chosen = reply.first;
         self.span = reply.second;

@@ -30,35 +30,42 @@ abbrev pub AllPassed : ℕ → List ℕ → Type 0
 AllPassed n [] = Unit
 AllPassed n (w ∷ l) = (drawLimit n ≤ w) × AllPassed n l
 
--- THE FIRST WORD BELOW THE LIMIT DECIDES: the words before it and the word itself are used
+-- the first word below the limit decides: the words before it and the word itself are used
 pub record FirstTaken (n : ℕ) : Type 0 where
   pub word : (p : List ℕ) (w : ℕ) (l : List ℕ) → AllPassed n p → w < drawLimit n
       → (draw (p ++ w ∷ l) n ≡ w % n) × (drawUsed (p ++ w ∷ l) n ≡ length p + 1)
   -- where none is left, n stands for that, and all are used
   pub none : (p : List ℕ) → AllPassed n p → (draw p n ≡ n) × (drawUsed p n ≡ length p)
 
+-- THE FIRST WORD BELOW THE LIMIT DECIDES, whatever comes before and after it
+abbrev pub Taken : Type 0
+Taken = (n : ℕ) → FirstTaken n
+
 -- ---- how many words draw each number
-
--- 1 where the word w draws k between n; with n for k, where it is passed over
-abbrev pub draws : ℕ → ℕ → ℕ → ℕ
-draws n k w = gate (eqb (draw (w ∷ []) n) k) 1
-
--- OF ALL WORDS AS MANY DRAW EACH NUMBER: 4,294,967,296 / n, rounded down, draw each k below n, and the rest are passed over
-pub record Even (n : ℕ) : Type 0 where
-  pub each : (k : ℕ) → k < n → sumTo (draws n k) wordEnd ≡ wordEnd / n
-  pub none : sumTo (draws n n) wordEnd ≡ wordEnd % n
 
 -- how many lists of x words have f, which is 1 or 0 of each
 unfoldable pub listsWith : ℕ → (List ℕ → ℕ) → ℕ
 listsWith zero f = f []
 listsWith (suc x) f = sumTo (λ w. listsWith x (λ l. f (w ∷ l))) wordEnd
 
--- OF ALL LISTS OF x WORDS AS MANY DRAW EACH NUMBER: the lists that draw k, taken n times, are all lists but those whose words
--- are all passed over
-abbrev pub EvenLists : Type 0
-EvenLists =
-    (n k : ℕ) → k < n
-    → (x : ℕ) → n * listsWith x (λ l. gate (eqb (draw l n) k) 1) + (wordEnd % n) ^ x ≡ wordEnd ^ x
+-- f is 1 of one list in n, in a draw between n
+pub record OneIn (n : ℕ) (f : List ℕ → ℕ) : Type 0 where
+  -- of all words: of 4,294,967,296 / n, rounded down
+  pub words : sumTo (λ w. f (w ∷ [])) wordEnd ≡ wordEnd / n
+  -- of all lists of x words: n times as many are all lists but those of which every word is passed over
+  pub lists : (x : ℕ) → n * listsWith x f + (wordEnd % n) ^ x ≡ wordEnd ^ x
+
+-- 1 where the words l draw k between n; with n for k, where every one is passed over
+abbrev pub draws : ℕ → ℕ → List ℕ → ℕ
+draws n k l = gate (eqb (draw l n) k) 1
+
+-- EVERY NUMBER IS EQUALLY LIKELY: as many words draw each k below n, and the rest of all words are passed over
+pub record Even (n : ℕ) : Type 0 where
+  pub each : (k : ℕ) → k < n → OneIn n (draws n k)
+  pub rest : sumTo (λ w. draws n n (w ∷ [])) wordEnd ≡ wordEnd % n
+
+abbrev pub Uniform : Type 0
+Uniform = (n : ℕ) → Even n
 
 -- ---- the draw between candidates
 
@@ -100,27 +107,22 @@ Drawn s l = drawn s l ≡ true → Numbered s (draw l (candidates s)) (pickOf s 
 abbrev pub chooses : Session → ℕ → List ℕ → ℕ
 chooses s c l = gate (drawn s l && eqb (pickOf s l) c) 1
 
--- EVERY CANDIDATE IS EQUALLY LIKELY: c is candidate number k of n, two or more. Rows are below 16, which is idle.
-pub record EvenPick (s : Session) (c : ℕ) : Type 0 where
-  pub words : sumTo (λ w. chooses s c (w ∷ [])) wordEnd ≡ wordEnd / candidates s
-  pub lists : (x : ℕ) → candidates s * listsWith x (chooses s c) + (wordEnd % candidates s) ^ x ≡ wordEnd ^ x
-
+-- EVERY CANDIDATE IS EQUALLY LIKELY, in every session in which there are two at least; c is candidate number k. Rows are below
+-- 16, which is idle.
 abbrev pub UniformPick : Type 0
-UniformPick = (s : Session) → s .count ≤ 16 → contested s ≡ true → (k c : ℕ) → Numbered s k c → EvenPick s c
+UniformPick =
+    (s : Session) → s .count ≤ 16 → contested s ≡ true → (k c : ℕ) → Numbered s k c → OneIn (candidates s) (chooses s c)
 
 -- ---- the draw between the lengths of a span
 
--- 1 where the words l give c the span x, and one of them decides
-abbrev pub lasts : Session → ℕ → ℕ → List ℕ → ℕ
-lasts s c x l = gate (lengthDrawn s l 0 c && eqb (spanOf s l 0 c) x) 1
+-- 1 where the words l, after the words p that were used, give c the span x, and one of them decides
+abbrev pub lasts : Session → List ℕ → ℕ → ℕ → List ℕ → ℕ
+lasts s p c x l = gate (lengthDrawn s (p ++ l) (length p) c && eqb (spanOf s (p ++ l) (length p) c) x) 1
 
--- EVERY LENGTH IS EQUALLY LIKELY: others lose budget while c runs, and it may run for x ticks
-pub record EvenSpan (s : Session) (c x : ℕ) : Type 0 where
-  pub words : sumTo (λ w. lasts s c x (w ∷ [])) wordEnd ≡ wordEnd / room s c
-  pub lists : (y : ℕ) → room s c * listsWith y (lasts s c x) + (wordEnd % room s c) ^ y ≡ wordEnd ^ y
-
+-- EVERY LENGTH IS EQUALLY LIKELY, in every session; others lose budget while c runs, and it may run for x ticks
 abbrev pub UniformSpan : Type 0
-UniformSpan = (s : Session) (c x : ℕ) → unopposed s c ≡ false → 1 ≤ x → x ≤ room s c → EvenSpan s c x
+UniformSpan =
+    (s : Session) (p : List ℕ) (c x : ℕ) → unopposed s c ≡ false → 1 ≤ x → x ≤ room s c → OneIn (room s c) (lasts s p c x)
 
 -- a word is divided by 2 at least where it decides between candidates, and by 1 at least where it decides the span
 pub record Divisors (s : Session) (l : List ℕ) : Type 0 where

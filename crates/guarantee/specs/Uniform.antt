@@ -10,6 +10,7 @@ use native.Mathlib.Omega.{arith}
 use native.Mathlib.Decide.{decLt, ℕ-discrete}
 use lib.Dec.{eqb}
 use lib.ListN.{length}
+use lib.Seq.{drop-append-seam}
 use borrow.Author.Tests.{lt-ltb, le-ltb, eq-eqb, ne-eqb}
 use Rattle.bounded.specs.Tests.{gate, gate-on, gate-off}
 use Rattle.bounded.specs.Sum.{sumTo, sum-eq, sum-add, sum-mul, sum-const, sum-zero, sum-shift, sum-eq-at}
@@ -17,8 +18,7 @@ use Rattle.session.specs.declared.Session.{Session}
 use Rattle.session.specs.Order.{candidates, position, candidateAt}
 use Rattle.session.specs.Choose.{wordEnd, drawLimit, draw, drawUsed, contested, drawn, pickOf, room, unopposed, lengthDrawn, spanOf}
 use Rattle.session.specs.Draw.{limit-le, draw-taken, draw-passed, used-taken, used-passed, word-low, word-high}
-use Rattle.guarantee.specs.Draws.{Limit, AllPassed, FirstTaken, draws, Even, listsWith, EvenLists}
-use Rattle.guarantee.specs.Draws.{Numbered, row, last, chooses, UniformPick, lasts, UniformSpan}
+use Rattle.guarantee.specs.Draws.{Limit, AllPassed, Taken, listsWith, OneIn, draws, Uniform, Numbered, row, last, chooses, UniformPick, lasts, UniformSpan}
 use Rattle.guarantee.specs.Exact.{numbering}
 
 -- ---- the limit, and the first word below it
@@ -50,8 +50,8 @@ module _ (n : ℕ) where
       let r = first-none p (a .1) in
       (draw-passed n v p (a .0) ∙ r .0, omega (arith, used-passed n v p (a .0), r .1))
 
-pub first-taken : (n : ℕ) → FirstTaken n
-first-taken n = record { word = first-word n; none = first-none n }
+pub taken : Taken
+taken n = record { word = first-word n; none = first-none n }
 
 -- ---- how many words draw each number
 
@@ -80,31 +80,30 @@ sum-split : (f : ℕ → ℕ) (a b : ℕ) → a ≤ b → sumTo f b ≡ sumTo f 
 sum-split f a b h = let e : a + (b - a) ≡ b = omega arith in ap (sumTo f) (sym e) ∙ sum-shift f a (b - a)
 
 module _ (n : ℕ) where
-  even-each : (k : ℕ) → k < n → sumTo (draws n k) wordEnd ≡ wordEnd / n
+  even-each : (k : ℕ) → k < n → sumTo (λ w. draws n k (w ∷ [])) wordEnd ≡ wordEnd / n
   unfolding drawLimit
   even-each k h =
-      let a = sum-eq (draws n k) (λ w. gate (eqb (w % n) k) 1) (drawLimit n) (λ w l. ap (λ (y : ℕ). gate (eqb y k) 1) (draw-taken n w [] l)) in
-      let b = sum-zero (λ x. draws n k (drawLimit n + x)) (wordEnd - drawLimit n)
+      let f : ℕ → ℕ = λ w. draws n k (w ∷ []) in
+      let a = sum-eq f (λ w. gate (eqb (w % n) k) 1) (drawLimit n) (λ w l. ap (λ (y : ℕ). gate (eqb y k) 1) (draw-taken n w [] l)) in
+      let b = sum-zero (λ x. f (drawLimit n + x)) (wordEnd - drawLimit n)
       (λ x l. gate-off _ 1 (ne-eqb _ k (λ e. omega (arith, word-high n (drawLimit n + x) (omega arith))))) in
-      omega (arith, sum-split (draws n k) (drawLimit n) wordEnd (limit-le n), a, b, blocks n k (wordEnd / n) h)
+      omega (arith, sum-split f (drawLimit n) wordEnd (limit-le n), a, b, blocks n k (wordEnd / n) h)
 
-  even-none : sumTo (draws n n) wordEnd ≡ wordEnd % n
+  even-rest : sumTo (λ w. draws n n (w ∷ [])) wordEnd ≡ wordEnd % n
   unfolding drawLimit
-  even-none =
-      let a = sum-zero (draws n n) (drawLimit n) (λ w l. gate-off _ 1 (ne-eqb _ n (λ e. omega (arith, word-low n w l)))) in
-      let b = sum-eq (λ x. draws n n (drawLimit n + x)) (λ x. 1) (wordEnd - drawLimit n)
+  even-rest =
+      let f : ℕ → ℕ = λ w. draws n n (w ∷ []) in
+      let a = sum-zero f (drawLimit n) (λ w l. gate-off _ 1 (ne-eqb _ n (λ e. omega (arith, word-low n w l)))) in
+      let b = sum-eq (λ x. f (drawLimit n + x)) (λ x. 1) (wordEnd - drawLimit n)
       (λ x l. gate-on _ 1 (eq-eqb _ n (word-high n (drawLimit n + x) (omega arith)))) in
       omega (
         arith,
-        sum-split (draws n n) (drawLimit n) wordEnd (limit-le n),
+        sum-split f (drawLimit n) wordEnd (limit-le n),
         a,
         b,
         sum-const 1 (wordEnd - drawLimit n),
         div-add-mod' wordEnd n,
       )
-
-pub even : (n : ℕ) → Even n
-even n = record { each = even-each n; none = even-none n }
 
 -- ---- how many lists of words draw each number
 
@@ -121,49 +120,57 @@ lists-const (suc x) c =
     ∙ sum-const (c * wordEnd ^ x) wordEnd ∙ rw (pow-suc wordEnd x) (omega arith)
 
 module _ (n k : ℕ) (h : k < n) where
-  drawing : List ℕ → ℕ
-  drawing l = gate (eqb (draw l n) k) 1
-
   -- a first word that is taken draws k or another number, whatever comes after it; one that is passed over leaves it to them
-  lists-by : (x w : ℕ) → listsWith x (λ l. drawing (w ∷ l)) ≡ listsWith x drawing * draws n n w + wordEnd ^ x * draws n k w
-  unfolding drawing
+  lists-by : (x w : ℕ)
+      → listsWith x (λ l. draws n k (w ∷ l)) ≡ listsWith x (draws n k) * draws n n (w ∷ []) + wordEnd ^ x * draws n k (w ∷ [])
   lists-by x w =
       dite (decLt w (drawLimit n))
       (λ t.
       let e = word-low n w t in
       let a = gate-off (eqb (draw (w ∷ []) n) n) 1 (ne-eqb _ n (λ q. omega arith)) in
-      let c = lists-eq x (λ l. drawing (w ∷ l)) (λ l. draws n k w)
+      let c = lists-eq x (λ l. draws n k (w ∷ l)) (λ l. draws n k (w ∷ []))
       (λ l. ap (λ (y : ℕ). gate (eqb y k) 1) (draw-taken n w l t ∙ sym (draw-taken n w [] t))) in
-      rw a (c ∙ lists-const x (draws n k w) ∙ omega arith))
+      rw a (c ∙ lists-const x (draws n k (w ∷ [])) ∙ omega arith))
       (λ f.
       let e = word-high n w (omega arith) in
       let a = gate-on (eqb (draw (w ∷ []) n) n) 1 (eq-eqb _ n e) in
       let b = gate-off (eqb (draw (w ∷ []) n) k) 1 (ne-eqb _ k (λ q. omega arith)) in
-      let c = lists-eq x (λ l. drawing (w ∷ l)) drawing (λ l. ap (λ (y : ℕ). gate (eqb y k) 1) (draw-passed n w l (omega arith))) in
+      let c = lists-eq x (λ l. draws n k (w ∷ l)) (draws n k) (λ l. ap (λ (y : ℕ). gate (eqb y k) 1) (draw-passed n w l (omega arith))) in
       rw (a, b) (c ∙ omega arith))
 
-  lists-next : (x : ℕ) → listsWith (suc x) drawing ≡ listsWith x drawing * (wordEnd % n) + wordEnd ^ x * (wordEnd / n)
+  lists-next : (x : ℕ) → listsWith (suc x) (draws n k) ≡ listsWith x (draws n k) * (wordEnd % n) + wordEnd ^ x * (wordEnd / n)
   unfolding listsWith
   lists-next x =
-      sum-eq _ (λ w. listsWith x drawing * draws n n w + wordEnd ^ x * draws n k w) wordEnd (λ w u. lists-by x w)
-      ∙ sum-add (λ w. listsWith x drawing * draws n n w) (λ w. wordEnd ^ x * draws n k w) wordEnd
-      ∙ rw (sum-mul (listsWith x drawing) (draws n n) wordEnd, sum-mul (wordEnd ^ x) (draws n k) wordEnd, even-none n, even-each n k h)
+      let f : ℕ → ℕ = λ w. draws n n (w ∷ []) in
+      let g : ℕ → ℕ = λ w. draws n k (w ∷ []) in
+      let y = listsWith x (draws n k) in
+      sum-eq _ (λ w. y * f w + wordEnd ^ x * g w) wordEnd (λ w u. lists-by x w)
+      ∙ sum-add (λ w. y * f w) (λ w. wordEnd ^ x * g w) wordEnd
+      ∙ rw (sum-mul y f wordEnd, sum-mul (wordEnd ^ x) g wordEnd, even-rest n, even-each n k h)
 
-  -- n * (a * r + p * q) + r ^ (x + 1), by r times the last equation and all words
-  lists-all : (x : ℕ) → n * listsWith x drawing + (wordEnd % n) ^ x ≡ wordEnd ^ x
-  unfolding listsWith drawing draw
-  lists-all zero = let z = gate-off (eqb n k) 1 (ne-eqb n k (λ e. omega arith)) in rw (z, pow-zero (wordEnd % n)) (omega arith)
+  lists-all : (x : ℕ) → n * listsWith x (draws n k) + (wordEnd % n) ^ x ≡ wordEnd ^ x
+  unfolding listsWith draw
+  lists-all zero =
+      let z = gate-off (eqb n k) 1 (ne-eqb n k (λ e. omega arith)) in rw (z, pow-zero (wordEnd % n)) (omega arith)
   lists-all (suc x) =
-      let ih = lists-all x in
-      let all = div-add-mod' wordEnd n in
-      let a : n * listsWith x drawing * (wordEnd % n) + (wordEnd % n) ^ x * (wordEnd % n) ≡ wordEnd ^ x * (wordEnd % n) =
-      sym (omega arith) ∙ ap (λ (y : ℕ). y * (wordEnd % n)) ih in
-      let b : wordEnd ^ x * (wordEnd / n) * n + wordEnd ^ x * (wordEnd % n) ≡ wordEnd ^ x * wordEnd = sym (omega arith) ∙ ap (λ (y : ℕ). wordEnd ^ x * y) all in
+      let y = listsWith x (draws n k) in
+      let r = wordEnd % n in
+      let p = wordEnd ^ x in
+      -- the last equation r times, and all words p times
+      let a : n * y * r + r ^ x * r ≡ p * r = sym (omega arith) ∙ ap (λ (z : ℕ). z * r) (lists-all x) in
+      let b : p * (wordEnd / n) * n + p * r ≡ p * wordEnd = sym (omega arith) ∙ ap (λ (z : ℕ). p * z) (div-add-mod' wordEnd n) in
       rw (lists-next x, pow-suc wordEnd x, pow-suc (wordEnd % n) x) (omega (arith, a, b))
 
-pub even-lists : EvenLists
-unfolding drawing
-even-lists n k h x = lists-all n k h x
+pub uniform : Uniform
+uniform n =
+    record { each = λ k h. record { words = even-each n k h; lists = lists-all n k h }; rest = even-rest n }
+
+one-in-eq : (n : ℕ) (f g : List ℕ → ℕ) → ((l : List ℕ) → f l ≡ g l) → OneIn n g → OneIn n f
+one-in-eq n f g h o =
+    record {
+      words = sum-eq (λ w. f (w ∷ [])) (λ w. g (w ∷ [])) wordEnd (λ w l. h (w ∷ [])) ∙ o .words;
+      lists = λ x. rw (lists-eq x f g h) (o .lists x);
+    }
 
 -- ---- the candidates
 
@@ -184,7 +191,7 @@ module _ (s : Session) (few : s .count ≤ 16) where
         (λ q. ne-eqb (candidateAt s j) c (λ z. q (numbered-once e num z)) ∙ sym (ne-eqb j k q))
 
     -- words choose c where they draw its number
-    chooses-is : (l : List ℕ) → chooses s c l ≡ gate (eqb (draw l (candidates s)) k) 1
+    chooses-is : (l : List ℕ) → chooses s c l ≡ draws (candidates s) k l
     unfolding pickOf drawn
     chooses-is l =
         dite (decLt (draw l (candidates s)) (candidates s))
@@ -195,33 +202,25 @@ module _ (s : Session) (few : s .count ≤ 16) where
 
 pub uniform-pick : UniformPick
 uniform-pick s few con k c num =
-    let is = chooses-is s few con k c num in
-    let n = candidates s in
-    let h = numbering s .most num in
-    record {
-      words = sum-eq (λ w. chooses s c (w ∷ [])) (draws n k) wordEnd (λ w l. is (w ∷ [])) ∙ even n .each k h;
-      lists = λ x. rw (lists-eq x (chooses s c) (λ l. gate (eqb (draw l n) k) 1) is) (even-lists n k h x);
-    }
+    one-in-eq (candidates s) (chooses s c) (draws (candidates s) k) (chooses-is s few con k c num)
+    (uniform (candidates s) .each k (numbering s .most num))
 
 -- ---- the lengths of a span
 
-module _ (s : Session) (c x : ℕ) (o : unopposed s c ≡ false) (some : 1 ≤ x) (most : x ≤ room s c) where
-  lasts-is : (l : List ℕ) → lasts s c x l ≡ gate (eqb (draw l (room s c)) (x - 1)) 1
+module _ (s : Session) (p : List ℕ) (c x : ℕ) (o : unopposed s c ≡ false) (some : 1 ≤ x) (most : x ≤ room s c) where
+  lasts-is : (l : List ℕ) → lasts s p c x l ≡ draws (room s c) (x - 1) l
   unfolding lengthDrawn spanOf
   lasts-is l =
       let d = draw l (room s c) in
-      dite (decLt d (room s c))
+      rw (drop-append-seam p l)
+      (dite (decLt d (room s c))
       (λ h. simp (o, lt-ltb d (room s c) h)
       (ap (λ (b : Bool). gate b 1)
       (dite (ℕ-discrete d (x - 1)) (λ q. eq-eqb (1 + d) x (omega arith) ∙ sym (eq-eqb d (x - 1) q))
       (λ q. ne-eqb (1 + d) x (λ z. q (omega arith)) ∙ sym (ne-eqb d (x - 1) q)))))
-      (λ h. simp (o, le-ltb d (room s c) (omega arith), ne-eqb d (x - 1) (λ e. omega arith)))
+      (λ h. simp (o, le-ltb d (room s c) (omega arith), ne-eqb d (x - 1) (λ e. omega arith))))
 
 pub uniform-span : UniformSpan
-uniform-span s c x o some most =
-    let is = lasts-is s c x o some most in
-    let m = room s c in
-    record {
-      words = sum-eq (λ w. lasts s c x (w ∷ [])) (draws m (x - 1)) wordEnd (λ w l. is (w ∷ [])) ∙ even m .each (x - 1) (omega arith);
-      lists = λ y. rw (lists-eq y (lasts s c x) (λ l. gate (eqb (draw l m) (x - 1)) 1) is) (even-lists m (x - 1) (omega arith) y);
-    }
+uniform-span s p c x o some most =
+    one-in-eq (room s c) (lasts s p c x) (draws (room s c) (x - 1)) (lasts-is s p c x o some most)
+    (uniform (room s c) .each (x - 1) (omega arith))
