@@ -70,6 +70,7 @@ fn main() {
         draws: DrawnChoices::default(),
         one_by_one: 0,
     };
+    test.long_lists();
     while test.calls() < calls {
         test.round();
     }
@@ -186,6 +187,23 @@ impl Test {
             }
         }
         self.each_call(Source::History, &record);
+    }
+
+    /// A million words for a choice between three: every one is passed over, or
+    /// every one but the last.
+    fn long_lists(&mut self) {
+        let mut record = random_record(&mut self.rng);
+        let table = Request::Admit(vec![2, 10, 10, 3, 20, 15]);
+        for request in [table, Request::Arrive(0), Request::Arrive(1)] {
+            self.check(Source::History, &mut record, &request);
+        }
+        let mut words = vec![u32::MAX; 1_000_000];
+        for last in [u32::MAX, 1] {
+            *words.last_mut().expect("there are words") = last;
+            let mut copy = record;
+            let reply = self.check(Source::History, &mut copy, &Request::Choose(words.clone()));
+            assert_eq!(reply.used, 1_000_000);
+        }
     }
 
     /// The record of an admission, and how many steps may follow: few if the
