@@ -1,22 +1,17 @@
 //! A whole shift change in one call: a list of rows arrives in list order. All
 //! numbers are worked out by hand.
 
+mod shared;
+
+use shared::{fresh, FOUR};
 use shuffle_model::calls::{arrive_all, candidates, perform, Answer, Arrival, Call};
 use shuffle_model::rng::Rng;
 use shuffle_model::session::{Choice, Job, Session, Slot, CLOCK_END, IDLE};
 use shuffle_model::sessions::sound_session;
-use shuffle_model::table::{admit, Kind};
-
-/// C, T, D of four rows. With every D below every T, V of a row is its D less
-/// the C of all rows, 14: V is 6, 16, 26, 36.
-const FOUR: [[u32; 3]; 4] = [[4, 100, 20], [3, 100, 30], [2, 100, 40], [5, 100, 50]];
+use shuffle_model::table::Kind;
 
 /// An answer: its number and two values.
 type Numbers = (u32, [u64; 2]);
-
-fn fresh(rows: &[[u32; 3]]) -> Session {
-    Session::new(admit(&rows.concat()).unwrap())
-}
 
 /// Hands in a list of these rows, and gives the answers.
 fn batch(session: &mut Session, rows: &[u64]) -> Vec<Numbers> {

@@ -1,35 +1,20 @@
 //! Every candidate equally likely: which words a draw passes over, which it uses,
 //! and what is run when none is left. All numbers are worked out by hand.
 
+mod shared;
+
+use shared::{arrived, fresh, FOUR};
 use shuffle_model::calls::{candidates, draw, limit, perform, Answer, Call};
 use shuffle_model::rng::Rng;
 use shuffle_model::session::{Choice, Job, Session, CLOCK_END, IDLE};
 use shuffle_model::specification::{listing, plain};
-use shuffle_model::table::{admit, Kind};
+use shuffle_model::table::Kind;
 use shuffle_model::text::{run, WORD_LIMIT};
 
 /// The greatest word, 2^32 − 1.
 const LAST: u32 = 4_294_967_295;
 /// Idle in an answer.
 const IDLE_SHOWN: u64 = IDLE as u64;
-
-/// C, T, D of four rows. With every D below every T, V of a row is its D less
-/// the C of all rows, 14: V is 6, 16, 26, 36. When all of them wait there are 5
-/// candidates, and 3 lengths for row 1, 2 for row 2, 5 for row 3, 6 for idle.
-const FOUR: [[u32; 3]; 4] = [[4, 100, 20], [3, 100, 30], [2, 100, 40], [5, 100, 50]];
-
-fn fresh(rows: &[[u32; 3]]) -> Session {
-    Session::new(admit(&rows.concat()).unwrap())
-}
-
-/// A session of these rows at tick 0 at which a job of each has just arrived.
-fn arrived(rows: &[[u32; 3]]) -> Session {
-    let mut session = fresh(rows);
-    for row in 0..rows.len() as u32 {
-        assert_eq!(perform(&mut session, Call::Arrive(row)).number, 0);
-    }
-    session
-}
 
 /// An accepted choice: its two values, and how many words it uses.
 fn choose(session: &Session, words: &[u32]) -> ([u64; 2], usize) {

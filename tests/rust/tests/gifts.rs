@@ -1,26 +1,12 @@
 //! Unused time goes to the jobs behind: what a finish gives to whom, and which
 //! budgets a sound session can hold. All numbers are worked out by hand.
 
+mod shared;
+
+use shared::{arrived, fresh, FOUR};
 use shuffle_model::calls::{candidates, perform, Answer, Call};
 use shuffle_model::session::{Choice, Job, Session, Slot, CLOCK_END, IDLE};
-use shuffle_model::table::{admit, budget, Kind, Row};
-
-/// C, T, D of four rows. With every D below every T, V of a row is its D less
-/// the C of all rows, 14: V is 6, 16, 26, 36. D − C is 16, 27, 38, 45.
-const FOUR: [[u32; 3]; 4] = [[4, 100, 20], [3, 100, 30], [2, 100, 40], [5, 100, 50]];
-
-fn fresh(rows: &[[u32; 3]]) -> Session {
-    Session::new(admit(&rows.concat()).unwrap())
-}
-
-/// A session of these rows at tick 0 at which a job of each has just arrived.
-fn arrived(rows: &[[u32; 3]]) -> Session {
-    let mut session = fresh(rows);
-    for row in 0..rows.len() as u32 {
-        accept(&mut session, Call::Arrive(row));
-    }
-    session
-}
+use shuffle_model::table::{budget, Kind, Row};
 
 fn job(due: u64, left: u64, budget: i64) -> Option<Job> {
     Some(Job { due, left, budget })
