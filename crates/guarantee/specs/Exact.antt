@@ -268,7 +268,7 @@ numbering s = record {
 
 -- ---- the draw
 
-pub contested-two : (s : Session) → contested s ≡ true → 2 ≤ candidates s
+contested-two : (s : Session) → contested s ≡ true → 2 ≤ candidates s
 unfolding contested
 contested-two s e = leb-true 2 (candidates s) (and-true (ltb (headOf s) (s .count)) _ e .1)
 

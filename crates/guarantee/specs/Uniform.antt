@@ -23,9 +23,9 @@ use Rattle.guarantee.specs.Exact.{numbering}
 
 -- ---- the limit, and the first word below it
 
-pub limit : Limit
+pub draw-limit : Limit
 unfolding drawLimit
-limit n =
+draw-limit n =
     record {
       multiple = (wordEnd / n, refl);
       within = limit-le n;
@@ -50,8 +50,8 @@ module _ (n : ℕ) where
       let r = first-none p (a .1) in
       (draw-passed n v p (a .0) ∙ r .0, omega (arith, used-passed n v p (a .0), r .1))
 
-pub taken : Taken
-taken n = record { word = first-word n; none = first-none n }
+pub first-taken : Taken
+first-taken n = record { word = first-word n; none = first-none n }
 
 -- ---- how many words draw each number
 
