@@ -74,7 +74,7 @@ abbrev pub candidateRows : Session → ℕ
 candidateRows s = sumTo (λ i. gate (candidate s i) 1) (s .count)
 
 -- c is candidate number k, from 0: a row with k candidates before it in the order of jobs, or idle, which comes after
--- all the rows (§5.4, Draw)
+-- all the rows (§5.4, Candidate)
 pub data Numbered (s : Session) (k : ℕ) : ℕ → Type 0 where
   row : (r : ℕ) → r < s .count → candidate s r ≡ true → position s r ≡ k → Numbered s k r
   last : permits s idle ≡ true → k ≡ candidateRows s → Numbered s k idle
