@@ -43,15 +43,15 @@ module _ (n : ℕ) where
       let r = first-word p w l (a .1) h in
       (draw-passed n v (p ++ w ∷ l) (a .0) ∙ r .0, omega (arith, used-passed n v (p ++ w ∷ l) (a .0), r .1))
 
-  first-none : (p : List ℕ) → AllPassed n p → (draw p n ≡ n) × (drawUsed p n ≡ length p)
+  all-passed : (p : List ℕ) → AllPassed n p → (draw p n ≡ n) × (drawUsed p n ≡ length p)
   unfolding draw drawUsed
-  first-none [] a = (refl, refl)
-  first-none (v ∷ p) a =
-      let r = first-none p (a .1) in
+  all-passed [] a = (refl, refl)
+  all-passed (v ∷ p) a =
+      let r = all-passed p (a .1) in
       (draw-passed n v p (a .0) ∙ r .0, omega (arith, used-passed n v p (a .0), r .1))
 
 pub first-taken : Taken
-first-taken n = record { word = first-word n; none = first-none n }
+first-taken n = record { word = first-word n; none = all-passed n }
 
 -- ---- how many words draw each number
 

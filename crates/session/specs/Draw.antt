@@ -50,30 +50,30 @@ passed-by n w l h =
 
 module _ (n w : ℕ) (l : List ℕ) where
   module _ (h : w < drawLimit n) where
-    below : passedOver n w ≡ false
+    is-taken : passedOver n w ≡ false
     unfolding passedOver
-    below = lt-leb (drawLimit n) w h
+    is-taken = lt-leb (drawLimit n) w h
 
     pub draw-taken : draw (w ∷ l) n ≡ w % n
     unfolding draw
-    draw-taken = simp below
+    draw-taken = simp is-taken
 
     pub used-taken : drawUsed (w ∷ l) n ≡ 1
     unfolding drawUsed
-    used-taken = simp below
+    used-taken = simp is-taken
 
   module _ (h : drawLimit n ≤ w) where
-    above : passedOver n w ≡ true
+    is-passed : passedOver n w ≡ true
     unfolding passedOver
-    above = le-leb (drawLimit n) w h
+    is-passed = le-leb (drawLimit n) w h
 
     pub draw-passed : draw (w ∷ l) n ≡ draw l n
     unfolding draw
-    draw-passed = simp above
+    draw-passed = simp is-passed
 
     pub used-passed : drawUsed (w ∷ l) n ≡ 1 + drawUsed l n
     unfolding drawUsed
-    used-passed = simp above
+    used-passed = simp is-passed
 
 -- ---- one word: it draws a number below n where it is below the limit, and n otherwise
 
