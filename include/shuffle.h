@@ -56,6 +56,10 @@ extern "C" {
 /* The last tick that the clock may show: 2 to the 53rd. */
 #define SHUFFLE_CLOCK_END UINT64_C(9007199254740992)
 
+/* Most stretches that the meter takes, and most ticks of them all together. */
+#define SHUFFLE_METER_STRETCHES 255
+#define SHUFFLE_METER_TICKS 16384
+
 /* The kinds of an admitted table. In a tight session every budget is 0. */
 #define SHUFFLE_LOOSE UINT64_C(1)
 #define SHUFFLE_TIGHT UINT64_C(2)
@@ -68,7 +72,7 @@ enum shuffle_number {
     /*
      * Accepted. Admit: kind, number of rows. Arrive: row, deadline. Choose: row
      * or 16 for idle, span. Advance: ticks left, 1 if the job is over (else 0).
-     * Finish: row, unused ticks.
+     * Finish: row, unused ticks. Meter: how mixed the schedule is.
      */
     SHUFFLE_ACCEPTED = 0,
 
@@ -100,7 +104,10 @@ enum shuffle_number {
     /* Finish: idle is running. Values: none. */
     SHUFFLE_IDLING = 11,
     /* Advance: the clock would pass its end. Values: 2 to the 53rd. */
-    SHUFFLE_CLOCK_ENDS = 12
+    SHUFFLE_CLOCK_ENDS = 12,
+
+    /* The meter, which has no record: stretches, ticks, window or n breaks its rule. Values: none. */
+    SHUFFLE_BAD_SHAPE = 14
 };
 
 /* What is held for a row. A job waits from its arrival until it is over, whether it runs or not. */
@@ -199,6 +206,27 @@ uint32_t shuffle_is_sound(const shuffle_session *session);
  * row.
  */
 int64_t shuffle_budget(const uint32_t *words, size_t n, uint64_t row);
+
+/*
+ * How mixed a schedule is: the schedule entropy, in eighths of a bit, rounded
+ * (docs/SPECIFICATION.md, section 10). The n rows are `stretches` stretches of
+ * `ticks` ticks one after another, a row number per tick, 16 for idle or any
+ * other byte. Two stretches are alike at a tick if their intervals of `window`
+ * ticks from there on, around the end of each stretch, differ in at most
+ * `threshold` ticks. First value: the sum, over each tick of each stretch, of
+ * g(stretches) - g(c), where c stretches, itself included, are alike there and
+ * g(x) is 8 log2 x rounded down. 0: equal stretches. At most, if each is unlike
+ * every other at each tick: n * g(stretches), so 1,032,192 at most.
+ *
+ * Refusal: 14, unless 1 <= stretches <= 255, 1 <= window <= ticks and
+ * n = stretches * ticks <= SHUFFLE_METER_TICKS. Every threshold is accepted.
+ *
+ * It takes time with stretches * stretches * ticks, whatever the window is, up
+ * to some milliseconds; it uses no memory but its stack and keeps no session, so
+ * it may run on another machine than the scheduler.
+ */
+shuffle_reply shuffle_meter(const uint8_t *rows, size_t n, size_t stretches, size_t ticks, size_t window,
+                            uint64_t threshold);
 
 #ifdef __cplusplus
 }

@@ -15,6 +15,10 @@ pub const ROWS: usize = 16;
 pub const HORIZON: u64 = 1_000_000;
 /// The last tick that the clock may show.
 pub const CLOCK_END: u64 = 1 << 53;
+/// Most stretches that the meter takes.
+pub const METER_STRETCHES: usize = 255;
+/// Most ticks of all stretches together.
+pub const METER_TICKS: usize = 16_384;
 /// The kind of a table in which no V is negative.
 pub const LOOSE: u64 = 1;
 /// The kind of the other admitted tables; in a session of it every budget is 0.
@@ -24,7 +28,8 @@ pub const TIGHT: u64 = 2;
 /// number is given.
 pub mod number {
     /// Accepted. Admit: kind, number of rows. Arrive: row, deadline. Choose: row or 16 for idle,
-    /// span. Advance: ticks left, 1 if the job is over. Finish: row, unused ticks.
+    /// span. Advance: ticks left, 1 if the job is over. Finish: row, unused ticks. Meter: how mixed
+    /// the schedule is.
     pub const ACCEPTED: u64 = 0;
     /// Admit: the length is 0, above 48 or no multiple of 3. Values: length.
     pub const BAD_LENGTH: u64 = 1;
@@ -50,6 +55,8 @@ pub mod number {
     pub const IDLING: u64 = 11;
     /// Advance: the clock would pass its end. Values: 2^53.
     pub const CLOCK_ENDS: u64 = 12;
+    /// The meter: stretches, ticks, window or the number of rows breaks its rule.
+    pub const BAD_SHAPE: u64 = 14;
 }
 
 /// What is held for a row. A job waits from its arrival until it is over, running or not.
@@ -158,6 +165,14 @@ unsafe extern "C" {
     safe fn shuffle_finish(session: &mut Session) -> Reply;
     safe fn shuffle_is_sound(session: &Session) -> u32;
     fn shuffle_budget(words: *const u32, n: usize, row: u64) -> i64;
+    fn shuffle_meter(
+        rows: *const u8,
+        n: usize,
+        stretches: usize,
+        ticks: usize,
+        window: usize,
+        threshold: u64,
+    ) -> Reply;
 }
 
 impl Reply {
@@ -267,4 +282,28 @@ impl Session {
 pub fn budget(words: &[u32], row: u64) -> i64 {
     // SAFETY: pointer and length of one slice, never null, also for an empty one.
     unsafe { shuffle_budget(words.as_ptr(), words.len(), row) }
+}
+
+/// How mixed a schedule is: the schedule entropy, in eighths of a bit, rounded. The rows are
+/// `stretches` stretches of `ticks` ticks one after another, a row number per tick, 16 for idle or
+/// any other byte. Two stretches are alike at a tick if their intervals of `window` ticks from there
+/// on, around the end of each stretch, differ in at most `threshold` ticks. First value: the sum,
+/// over each tick of each stretch, of g(stretches) − g(c), where c stretches, itself included, are
+/// alike there and g(x) is 8 log2 x rounded down. 0: equal stretches. At most, if each is unlike
+/// every other at each tick: g(stretches) for each row.
+///
+/// Refusal: 14, unless 1 ≤ stretches ≤ 255, 1 ≤ window ≤ ticks and the number of rows is
+/// stretches × ticks, 16,384 at most. Every threshold is accepted.
+pub fn meter(rows: &[u8], stretches: usize, ticks: usize, window: usize, threshold: u64) -> Reply {
+    // SAFETY: as for `budget`.
+    unsafe {
+        shuffle_meter(
+            rows.as_ptr(),
+            rows.len(),
+            stretches,
+            ticks,
+            window,
+            threshold,
+        )
+    }
 }

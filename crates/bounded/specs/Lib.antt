@@ -1,5 +1,7 @@
 pub mod Tests
+pub mod Within
 pub mod Sum
+pub mod Product
 pub mod Fold
 pub mod All
 pub mod Quotient

@@ -14,7 +14,7 @@ use borrow.Author.Tests.{lt-ltb, le-ltb, le-leb, lt-leb, eq-eqb, ne-eqb}
 use Rattle.bounded.specs.Signed.{negative}
 use Rattle.table.specs.declared.rows.Task.{Task}
 use Rattle.table.specs.Rows.{horizon, FitRow, Fit}
-use Rattle.table.specs.Bound.{Within}
+use Rattle.bounded.specs.Within.{Within}
 use Rattle.table.specs.Budgets.{budgetOf}
 use Rattle.session.specs.declared.Job.{Job}
 use Rattle.session.specs.declared.Session.{Session}

@@ -2,7 +2,7 @@
 ghost use mathlib.Core.Path.{_≡_};
 ghost use mathlib.Core.Bool.{true};
 ghost use Prim.Native.Nat.{_-_};
-ghost use Rattle.table.specs.Bound.{Within};
+ghost use Rattle.bounded.specs.Within.{Within};
 ghost use Rattle.session.specs.Sound.{sound};
 ghost use Rattle.session.specs.Calls.{overBy, steppedOf, advanceIn, advanceOf};
 ghost use Rattle.calls.specs.Code.{agedBy, placeOf, keptBy, Step};

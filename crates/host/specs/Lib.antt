@@ -2,3 +2,4 @@ pub mod Reply
 pub mod Numbers
 pub mod Forms
 pub mod EveryForm
+pub mod Meter

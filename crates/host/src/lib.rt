@@ -3,8 +3,12 @@
 ghost use mathlib.Core.Path.{_≡_};
 ghost use Rattle.session.specs.Calls.{arriveOf, chooseOf, advanceOf, finishOf};
 ghost use Rattle.session.specs.Batch.{afterAll, answeredAll};
+ghost use Rattle.meter.specs.Meter.{measureOf};
+ghost use Rattle.host.specs.Meter.{meterReply, shapeOf};
 ghost use Rattle.host.specs.Reply.{replyOf, verdictOf, Opened};
 ghost use Rattle.host.specs.Numbers.{soundNumber, budgetAt};
+use meter::Meter;
+use meter::Shape;
 use session::Arrival;
 use session::Outcome;
 use session::Session;
@@ -135,4 +139,46 @@ pub extern "C" fn shuffle_budget(words: &[u32], row: u64) -> i64
     }
     let budgets = a.budgets;
     budgets[row as usize]
+}
+
+fn metered(m: Meter) -> Reply
+    ensures { λ r. ⌜ r ≡ meterReply m ⌝ }
+{
+    match m {
+        Meter::Of(n) => Reply {
+            number: 0,
+            used: 0,
+            first: n,
+            second: 0,
+        },
+        Meter::Refused => Reply {
+            number: 14,
+            used: 0,
+            first: 0,
+            second: 0,
+        },
+    }
+}
+
+// How mixed a schedule is: stretches one after another, a row number per tick.
+#[no_mangle]
+pub extern "C" fn shuffle_meter(
+    rows: &[u8],
+    stretches: usize,
+    ticks: usize,
+    window: usize,
+    threshold: u64,
+) -> Reply
+    ensures { λ r. ⌜ r ≡ meterReply (measureOf (now (rows .entry)) (shapeOf stretches ticks window threshold)) ⌝ }
+{
+    let m = meter::measure(
+        rows,
+        Shape {
+            stretches,
+            ticks,
+            window,
+            threshold,
+        },
+    );
+    metered(m)
 }

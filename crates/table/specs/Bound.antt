@@ -1,16 +1,12 @@
--- A number that the code computed, with a bound that keeps the next sum from wrapping. Assumes nothing.
+-- Bounds that keep sums and products over a table from wrapping. Assumes nothing.
 use Prim.Native.Nat.{ℕ, _≤_, _*_}
 use mathlib.Core.Path.{_≡_}
 use native.Mathlib.Omega.{arith}
 use native.Mathlib.Nat.{mul-le-mul}
 use mir.Syntax.{w64}
 use mir.Val.{Fits}
+use Rattle.bounded.specs.Within.{Within}
 use Rattle.bounded.specs.Sum.{sumTo, sum-start, sum-next, sum-done}
-
--- r is x, and at most b
-pub record Within (b x r : ℕ) : Type 0 where
-  pub is : r ≡ x
-  pub small : r ≤ b
 
 -- a run of at most the horizon, as often as there are ticks up to it
 pub product-small : (c n : ℕ) → c ≤ 1000000 → n ≤ 1000000 → c * n ≤ 1000000000000

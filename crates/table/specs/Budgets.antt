@@ -17,7 +17,7 @@ use Rattle.edf.specs.Demand.{TaskSet, rowRequest, interference}
 use Rattle.table.specs.declared.rows.Task.{Task}
 use Rattle.table.specs.declared.budgets.Budgets.{Budgets}
 use Rattle.table.specs.Rows.{Fit, FitRow}
-use Rattle.table.specs.Bound.{Within}
+use Rattle.bounded.specs.Within.{Within}
 
 -- V of row i: D − C − the sum, over every other row j, of C of j times (D of i divided by T of j, rounded up)
 unfoldable pub budgetOf : TaskSet → ℕ → ℤ

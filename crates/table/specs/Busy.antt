@@ -7,7 +7,7 @@ use Rattle.bounded.specs.Fixed.{leastFixed, Climbing, climb-start, climb-far, c
 use Rattle.edf.specs.Demand.{TaskSet, request, request-mono, request-pos}
 use Rattle.table.specs.declared.busy.Busy.{Busy}
 use Rattle.table.specs.Rows.{horizon, Fit, fit-lawful}
-use Rattle.table.specs.Bound.{Within}
+use Rattle.bounded.specs.Within.{Within}
 use Rattle.table.specs.Leap.{Leap, Further}
 
 -- the least r ≥ 1 that equals the sum over all rows of C times (r divided by T, rounded up); 1,000,001 where there is none

@@ -10,7 +10,8 @@ use mir.Val.{Fits}
 use Rattle.edf.specs.Jobs.{jobsBy, jobs-none, jobs-some}
 use Rattle.edf.specs.Demand.{TaskSet, rowDemand}
 use Rattle.table.specs.declared.inverse.Prepared.{Prepared}
-use Rattle.table.specs.Bound.{Within, product-small, product-fits}
+use Rattle.bounded.specs.Within.{Within}
+use Rattle.table.specs.Bound.{product-small, product-fits}
 use Rattle.table.specs.Inverse.{Ready, Tame, tame-of}
 
 -- how many jobs are due by t, as one quotient

@@ -19,7 +19,8 @@ use Rattle.edf.specs.Demand.{TaskSet, rowDemand, demand}
 use Rattle.table.specs.declared.inverse.Prepared.{Prepared}
 use Rattle.table.specs.declared.drop.Holding.{Holding}
 use Rattle.table.specs.Rows.{Fit}
-use Rattle.table.specs.Bound.{Within, product-small}
+use Rattle.bounded.specs.Within.{Within}
+use Rattle.table.specs.Bound.{product-small}
 use Rattle.table.specs.Demand.{jobs-small, jobs-fits}
 use Rattle.table.specs.Inverse.{inverseOf, inverse-over, inverse-under, inverse-more, Ready, Tame, tame-of}
 use Rattle.table.specs.Sieve.{Sieved, given-back}

@@ -19,7 +19,7 @@ use Rattle.edf.specs.Demand.{TaskSet, rowRequest, request, request-mono}
 use Rattle.table.specs.declared.inverse.Prepared.{Prepared}
 use Rattle.table.specs.declared.leap.Filling.{Filling}
 use Rattle.table.specs.Rows.{horizon, Fit, fit-lawful}
-use Rattle.table.specs.Bound.{Within}
+use Rattle.bounded.specs.Within.{Within}
 use Rattle.table.specs.Request.{periods-fits, ask-is}
 use Rattle.table.specs.Sieve.{Sieved, given-forth}
 use Rattle.table.specs.Inverse.{whole, inverseOf, inverse-under, inverse-some, Ready, Tame, tame-of}

@@ -7,7 +7,7 @@ use native.Mathlib.Decide.{decLe, decLt}
 use Rattle.edf.specs.Demand.{TaskSet, demand, quick-search}
 use Rattle.table.specs.declared.overload.Found.{Found}
 use Rattle.table.specs.Rows.{Fit, fit-lawful}
-use Rattle.table.specs.Bound.{Within}
+use Rattle.bounded.specs.Within.{Within}
 use Rattle.table.specs.Drop.{Lower}
 
 -- no tick after t, up to end, is exceeded; n sums were made so far

@@ -8,7 +8,8 @@ use Rattle.bounded.specs.Quotient.{ceilDiv, ceil-small}
 use Rattle.edf.specs.Demand.{TaskSet, rowRequest}
 use Rattle.table.specs.declared.inverse.Prepared.{Prepared}
 use Rattle.table.specs.Rows.{horizon}
-use Rattle.table.specs.Bound.{Within, product-small, product-fits}
+use Rattle.bounded.specs.Within.{Within}
+use Rattle.table.specs.Bound.{product-small, product-fits}
 use Rattle.table.specs.Inverse.{Ready, Tame, tame-of}
 
 module _ (k : Prepared) (t : Tame k) (x q : ℕ) (h : x ≤ horizon) (e : q ≡ ceilDiv x (k .period)) where

@@ -12,7 +12,7 @@ use Rattle.bounded.specs.Tests.{both}
 use Rattle.bounded.specs.Fixed.{fixed-low, fixed-at, fixed-under}
 use Rattle.edf.specs.Demand.{TaskSet, demand, request, request-mono, request-pos}
 use Rattle.table.specs.Rows.{horizon, Fit, fit-lawful}
-use Rattle.table.specs.Bound.{Within}
+use Rattle.bounded.specs.Within.{Within}
 use Rattle.table.specs.Leap.{Leap, Further}
 use Rattle.table.specs.Busy.{busyLength}
 use Rattle.table.specs.Verdict.{comparedTo, overloaded, settled}

@@ -18,7 +18,7 @@ use Rattle.edf.specs.Jobs.{jobsBy, jobs-after, jobs-mono, jobs-room}
 use Rattle.edf.specs.Demand.{TaskSet, demand, request}
 use Rattle.table.specs.declared.inverse.Prepared.{Prepared}
 use Rattle.table.specs.Rows.{Fit}
-use Rattle.table.specs.Bound.{Within}
+use Rattle.bounded.specs.Within.{Within}
 use Rattle.table.specs.Inverse.{Ready, Tame, tame-of}
 use Rattle.table.specs.Demand.{jobs-fits}
 use Rattle.table.specs.Request.{periods-fits}

@@ -5,7 +5,7 @@ ghost use lib.IntN.{natAbs};
 ghost use Rattle.bounded.specs.Signed.{difference, negative};
 ghost use Rattle.edf.specs.Demand.{interference};
 ghost use Rattle.table.specs.Rows.{tasksOf, Fit};
-ghost use Rattle.table.specs.Bound.{Within};
+ghost use Rattle.bounded.specs.Within.{Within};
 ghost use Rattle.table.specs.Inverse.{Inverses};
 ghost use Rattle.table.specs.Budgets.{chargeOf, budgetOf, putOf, budgetsOf};
 use super::request::row_request;

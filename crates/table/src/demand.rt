@@ -4,7 +4,7 @@ ghost use Prim.Native.Nat.{_*_, _<_, _≤_};
 ghost use Rattle.edf.specs.Jobs.{jobsBy};
 ghost use Rattle.edf.specs.Demand.{rowDemand, demand};
 ghost use Rattle.table.specs.Rows.{tasksOf, Fit};
-ghost use Rattle.table.specs.Bound.{Within};
+ghost use Rattle.bounded.specs.Within.{Within};
 ghost use Rattle.table.specs.Inverse.{inverseOf, Inverses, Tame};
 use super::inverse::Prepared;
 use super::inverse::prepare;

@@ -6,7 +6,7 @@ ghost use lib.Dec.{ltb};
 ghost use Rattle.bounded.specs.Quotient.{ceilDiv};
 ghost use Rattle.edf.specs.Demand.{request};
 ghost use Rattle.table.specs.Rows.{tasksOf, Fit};
-ghost use Rattle.table.specs.Bound.{Within};
+ghost use Rattle.bounded.specs.Within.{Within};
 ghost use Rattle.table.specs.Inverse.{Inverses, Tame};
 ghost use Rattle.table.specs.Sieve.{Lag};
 ghost use Rattle.table.specs.Leap.{shareBy, LightFilling, fillingBy, Filled, leapBy, Leap, Further};

@@ -1,8 +1,8 @@
--- `choice::one` meets its contract. Assumes nothing.
+-- `bounded::one` meets its contract. Assumes nothing.
 use borrow.Author.Needs.{needs}
-use Rattle.choice.specs.Columns.{one-on, one-off}
-use Rattle.choice.proofs.one.Statement.{statement}
-use Rattle.choice.proofs.one.Tie as tie
+use Rattle.bounded.specs.Within.{one-on, one-off}
+use Rattle.bounded.proofs.one.Statement.{statement}
+use Rattle.bounded.proofs.one.Tie as tie
 
 returns : tie.Need-returns
 returns c = search (needs, one-on, one-off)

@@ -1,0 +1,11 @@
+pub mod Log
+pub mod Table
+pub mod Meter
+pub mod Entropy
+pub mod Rule
+pub mod Alike
+pub mod Near
+pub mod Equal
+pub mod Range
+pub mod Worked
+pub mod Code
