@@ -23,11 +23,11 @@ pub struct Answer {
 }
 
 impl Answer {
-    fn accepted(first: u64, second: u64) -> Self {
+    pub(crate) fn accepted(first: u64, second: u64) -> Self {
         Answer::refused(0, first, second)
     }
 
-    fn refused(number: u32, first: u64, second: u64) -> Self {
+    pub(crate) fn refused(number: u32, first: u64, second: u64) -> Self {
         Answer {
             number,
             values: [first, second],

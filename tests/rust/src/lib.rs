@@ -9,8 +9,11 @@ pub mod driver;
 pub mod gifts;
 pub mod hard;
 pub mod inputs;
+pub mod meter;
 pub mod options;
 pub mod process;
+pub mod questions;
+pub mod readings;
 #[cfg(feature = "host")]
 pub mod record;
 #[cfg(feature = "host")]

@@ -2,6 +2,7 @@
 //! of the record.
 
 use crate::calls::{arrive_all, perform, Answer, Arrival, Call};
+use crate::meter::Question;
 use crate::session::{Choice, Job, Session, Slot};
 use crate::shuffle::{self, Reply, Session as Record};
 use crate::table::{admit, budget, compared_range, demand, Kind, Row, ROW_LIMIT};
@@ -133,7 +134,8 @@ const UNSOUND: Reply = Reply {
     second: 0,
 };
 
-fn reply_of(answer: Answer) -> Reply {
+/// The model's answer as the library gives it.
+pub fn reply_of(answer: Answer) -> Reply {
     let [first, second] = answer.values;
     reply(answer.number, answer.words_used, first, second)
 }
@@ -241,4 +243,16 @@ pub fn replies_agree(request: &Request, actual: Reply, expected: Reply) -> bool 
 pub fn expected_budgets(words: &[u32]) -> Vec<i64> {
     let rows = admit(words).map_or(Vec::new(), |table| table.rows);
     (0..rows.len()).map(|row| budget(&rows, row)).collect()
+}
+
+/// The library's answer to a question, about these rows instead of its own.
+pub fn ask_library(question: &Question, rows: &[u8]) -> Reply {
+    let Question {
+        stretches,
+        ticks,
+        window,
+        threshold,
+        ..
+    } = *question;
+    shuffle::meter(rows, stretches, ticks, window, threshold as u64)
 }

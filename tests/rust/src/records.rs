@@ -69,16 +69,10 @@ pub fn sound_record(rng: &mut Rng) -> Record {
     record
 }
 
-/// A number just below, at or just above one of these limits.
-pub fn around(rng: &mut Rng, limits: &[u64]) -> u64 {
-    let step = rng.pick(&[u64::MAX, 0, 1]);
-    rng.pick(limits).wrapping_add(step)
-}
-
 /// A row of the record's table, or a number next to a limit.
 pub fn random_row(rng: &mut Rng, record: &Record) -> u64 {
     match rng.below(4) {
-        0 => around(rng, &[0, record.count, 16, 1 << 32]),
+        0 => rng.around(&[0, record.count, 16, 1 << 32]),
         _ => rng.draw() % record.count.max(1),
     }
 }
@@ -169,12 +163,12 @@ pub fn displace(rng: &mut Rng, record: &mut Record) {
     match rng.below(12) {
         0 => {
             let arrival = job.next.wrapping_sub(u64::from(record.words[3 * row + 1]));
-            record.clock = around(rng, &[0, clock, CLOCK_END, job.due, arrival]);
+            record.clock = rng.around(&[0, clock, CLOCK_END, job.due, arrival]);
         }
-        1 => record.kind = around(rng, &[0, 1, 2, 3, (1 << 32) + kind]),
-        2 => record.count = around(rng, &[0, 1, count, 16, 17, (1 << 32) + count]),
-        3 => record.chosen = around(rng, &[0, row as u64, count, 16, (1 << 32) + chosen]),
-        4 => record.span = around(rng, &[0, span, job.left, job.budget, HORIZON, 1 << 32]),
+        1 => record.kind = rng.around(&[0, 1, 2, 3, (1 << 32) + kind]),
+        2 => record.count = rng.around(&[0, 1, count, 16, 17, (1 << 32) + count]),
+        3 => record.chosen = rng.around(&[0, row as u64, count, 16, (1 << 32) + chosen]),
+        4 => record.span = rng.around(&[0, span, job.left, job.budget, HORIZON, 1 << 32]),
         5 => displace_word(rng, record, row),
         _ => displace_job(rng, record, row),
     }
@@ -195,15 +189,15 @@ fn displace_job(rng: &mut Rng, record: &mut Record, row: usize) {
     let latest = clock + period;
     let job = &mut record.jobs[row];
     match rng.below(6) {
-        0 => job.next = around(rng, &[0, job.next, latest, job.due]),
-        1 => job.due = around(rng, &[0, job.due, job.next, clock, 1 << 54, 1 << 63]),
-        2 => job.left = around(rng, &[0, 1, run, span, 1 << 32]),
+        0 => job.next = rng.around(&[0, job.next, latest, job.due]),
+        1 => job.due = rng.around(&[0, job.due, job.next, clock, 1 << 54, 1 << 63]),
+        2 => job.left = rng.around(&[0, 1, run, span, 1 << 32]),
         3 => {
             let limits = [0, v, deadline - run, span, 1 << 63, 1 << 32];
-            job.budget = around(rng, &limits);
+            job.budget = rng.around(&limits);
         }
         _ => {
-            job.next = around(rng, &[0, latest, latest - deadline, 1 << 54, 1 << 63]);
+            job.next = rng.around(&[0, latest, latest - deadline, 1 << 54, 1 << 63]);
             job.due = job.next.wrapping_sub(period).wrapping_add(deadline);
         }
     }
@@ -223,7 +217,7 @@ fn displace_word(rng: &mut Rng, record: &mut Record, row: usize) {
         1 => (1, vec![0, period, deadline, HORIZON]),
         _ => (2, vec![0, run, deadline - v, run + budget, period]),
     };
-    words[place] = around(rng, &limits) as u32;
+    words[place] = rng.around(&limits) as u32;
     if rng.chance(1, 2) {
         let [period, deadline] = [words[1], words[2]].map(u64::from);
         job.due = job.next.wrapping_sub(period).wrapping_add(deadline);

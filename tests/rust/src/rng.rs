@@ -55,4 +55,10 @@ impl Rng {
     pub fn pick<T: Copy>(&mut self, items: &[T]) -> T {
         items[self.below(items.len())]
     }
+
+    /// A number just below, at or just above one of these limits.
+    pub fn around(&mut self, limits: &[u64]) -> u64 {
+        let step = self.pick(&[u64::MAX, 0, 1]);
+        self.pick(limits).wrapping_add(step)
+    }
 }

@@ -1,6 +1,7 @@
 //! Compares the library with the model, call by call, on records of any
 //! content: the answer, soundness and every byte of the record; and of a batch,
-//! which lets a list of rows arrive in one call, the whole list.
+//! which lets a list of rows arrive in one call, the whole list. The meter, which
+//! has no record, is compared by `meters`.
 
 use std::process::exit;
 use std::time::Instant;
@@ -13,7 +14,7 @@ use shuffle_model::record::{
     answered, expected, expected_batch, expected_budgets, is_sound, replies_agree, view, Request,
 };
 use shuffle_model::records::{
-    around, displace, make_ready, random_list, random_record, random_row, sound_record,
+    displace, make_ready, random_list, random_record, random_row, sound_record,
 };
 use shuffle_model::rng::Rng;
 use shuffle_model::runs::{random_command, Style};
@@ -28,7 +29,7 @@ use shuffle_model::words::more_words;
 
 const DEFAULT_CALLS: u64 = 1_000_000;
 const DEFAULT_SEED: u64 = 20_250_301;
-/// The answer numbers of the library: 0 to 12.
+/// The answer numbers of the calls on records: 0 to 12.
 const NUMBERS: usize = 13;
 /// From this many calls on, each sort of tie must have been reached, and each
 /// sort of finish, of batch and of draw often enough.
@@ -378,7 +379,7 @@ fn four_calls(rng: &mut Rng, record: &Record) -> Vec<Request> {
     let row = random_row(rng, record);
     let ticks = match rng.below(4) {
         0 => rng.draw() % span.max(1),
-        _ => around(rng, &[0, 1, span, CLOCK_END.wrapping_sub(clock), 1 << 32]),
+        _ => rng.around(&[0, 1, span, CLOCK_END.wrapping_sub(clock), 1 << 32]),
     };
     vec![
         Request::Choose(words_for_choice(rng, record)),

@@ -1,8 +1,9 @@
-//! Sessions that several tests begin with.
+//! Sessions and questions that several tests begin with.
 
 #![allow(dead_code)] // no test uses all of it
 
 use shuffle_model::calls::{perform, Call};
+use shuffle_model::meter::Question;
 use shuffle_model::session::Session;
 use shuffle_model::table::admit;
 
@@ -23,4 +24,28 @@ pub fn arrived(rows: &[[u32; 3]]) -> Session {
         assert_eq!(perform(&mut session, Call::Arrive(row)).number, 0);
     }
     session
+}
+
+/// The question about these stretches, which are of one length.
+pub fn question(stretches: &[&[u8]], window: usize, threshold: usize) -> Question {
+    let ticks = stretches[0].len();
+    assert!(stretches.iter().all(|stretch| stretch.len() == ticks));
+    Question {
+        rows: stretches.concat(),
+        stretches: stretches.len(),
+        ticks,
+        window,
+        threshold,
+    }
+}
+
+/// A question of K, L, m and so many rows, all 0.
+pub fn zeros([stretches, ticks, window, length]: [usize; 4]) -> Question {
+    Question {
+        rows: vec![0; length],
+        stretches,
+        ticks,
+        window,
+        threshold: 0,
+    }
 }

@@ -101,7 +101,11 @@ pub fn print_counts(scratch: &Path) {
             "library_arrive_each",
             "model_arrive_all",
         ];
-        (name, rows, sides.map(|side| of_one_call(&counts, side)))
+        (
+            name,
+            rows,
+            sides.map(|side| of_one_call(&counts, side, COUNTED)),
+        )
     });
     print("Instructions when all rows arrive on one tick", counts);
 }

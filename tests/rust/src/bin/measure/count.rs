@@ -9,7 +9,7 @@ use std::process::Command;
 
 use shuffle_model::options::fail;
 
-/// Calls of each side in a counted run.
+/// Calls of each side in a counted run, but for the meter.
 pub const COUNTED: u64 = 100;
 
 /// Makes the calls that are counted, each on a copy of a state of its own.
@@ -39,10 +39,11 @@ pub fn functions(folder: &Path, arguments: &[&str]) -> HashMap<String, u64> {
     text.lines().filter_map(function).collect()
 }
 
-/// The instructions of one call; `side` is the name of the measured function.
-pub fn of_one_call(functions: &HashMap<String, u64>, side: &str) -> f64 {
+/// The instructions of one of so many calls; `side` is the name of the measured
+/// function.
+pub fn of_one_call(functions: &HashMap<String, u64>, side: &str, calls: u64) -> f64 {
     let total = functions.get(side).copied();
-    total.unwrap_or_else(|| panic!("{side} was not counted")) as f64 / COUNTED as f64
+    total.unwrap_or_else(|| panic!("{side} was not counted")) as f64 / calls as f64
 }
 
 /// A line such as `1,234 (56.78%)  ???:name [file]`.

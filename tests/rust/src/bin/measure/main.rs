@@ -4,6 +4,7 @@
 mod arrivals;
 mod cases;
 mod count;
+mod meters;
 mod sides;
 mod time;
 
@@ -24,12 +25,13 @@ const GROWTH: [u32; 5] = [1, 2, 4, 8, 16];
 const TICK_NS: f64 = 1_000_000.0;
 
 fn main() {
-    let options = Options::read(&["--scratch", "--shape", "--rows", "--call"]);
+    let options = Options::read(&["--scratch", "--shape", "--rows", "--call", "--question"]);
     if let Some(call) = options.text("--call") {
         let shape = SHAPES[options.number("--shape", 0usize)].0;
         let rows = options.number("--rows", 1);
         match call {
             arrivals::CALL => arrivals::make_counted_calls(shape, rows),
+            meters::CALL => meters::make_counted_calls(options.number("--question", 0)),
             _ => make_counted_calls(shape, rows, call),
         }
         return;
@@ -41,6 +43,7 @@ fn main() {
     for (shape, _, count) in tables(&ROWS) {
         arrivals::check(shape, count);
     }
+    meters::check();
     let times = time_all(&tables(&ROWS), &CALLS);
     print_summary(&times);
     print_times("Time of a call, in ns", &times);
@@ -55,6 +58,7 @@ fn main() {
     print_counts(title, &choices, &passing, &CHOICES);
     arrivals::print_counts(scratch);
     print_growth(&counts);
+    meters::print(scratch);
 }
 
 /// A table: its shape, the name of that, and its number of rows.
@@ -314,7 +318,7 @@ fn instructions(
     call: &'static str,
     side: &str,
 ) -> f64 {
-    of_one_call(&counts[&(name, rows, call)], side)
+    of_one_call(&counts[&(name, rows, call)], side, COUNTED)
 }
 
 fn print_counts(title: &str, counts: &Counts, tables: &[Named], calls: &[&'static str]) {

@@ -2,8 +2,9 @@
 //! each call with the check of soundness and without it. The names of the
 //! functions here are what the counts go by.
 
-use shuffle_model::calls::{self, arrive_all, perform, perform_on_sound, Answer, Call};
-use shuffle_model::record::{answered, rows_of, Request};
+use shuffle_model::calls::{self, arrive_all, perform, perform_on_sound, Call};
+use shuffle_model::meter::{meter, Question};
+use shuffle_model::record::{answered, ask_library, reply_of, rows_of, Request};
 use shuffle_model::session::Session;
 use shuffle_model::shuffle::{Arrival, Reply, Session as Record};
 use shuffle_model::table::{admit, admit_by_scan, Kind};
@@ -53,16 +54,6 @@ fn call_of(request: &Request) -> Option<Call<'_>> {
     }
 }
 
-fn reply(answer: Answer) -> Reply {
-    let [first, second] = answer.values;
-    Reply {
-        number: u64::from(answer.number),
-        used: answer.words_used as u64,
-        first,
-        second,
-    }
-}
-
 fn admitted(kind: Kind, count: usize) -> Reply {
     Reply {
         number: 0,
@@ -76,7 +67,7 @@ fn admitted(kind: Kind, count: usize) -> Reply {
 #[inline(never)]
 pub fn model_checked(session: &mut Session, request: &Request) -> Reply {
     match call_of(request) {
-        Some(call) => reply(perform(session, call)),
+        Some(call) => reply_of(perform(session, call)),
         None => model_admission(session, request),
     }
 }
@@ -85,7 +76,7 @@ pub fn model_checked(session: &mut Session, request: &Request) -> Reply {
 #[inline(never)]
 pub fn model_core(session: &mut Session, request: &Request) -> Reply {
     match call_of(request) {
-        Some(call) => reply(perform_on_sound(session, call)),
+        Some(call) => reply_of(perform_on_sound(session, call)),
         None => model_admission(session, request),
     }
 }
@@ -108,7 +99,7 @@ pub fn scan_checked(session: &mut Session, request: &Request) -> Reply {
         (_, Some(call)) => {
             let kind = admit_by_scan(&session.rows);
             assert!(kind == Some(session.kind) && session.fits_its_table());
-            reply(perform_on_sound(session, call))
+            reply_of(perform_on_sound(session, call))
         }
         (Request::Admit(words), None) => {
             let kind = admit_by_scan(&rows_of(words)).expect("the tables are admitted");
@@ -139,4 +130,18 @@ pub fn library_arrive_each(lent: &mut Lent<Record, Arrival>) {
 #[inline(never)]
 pub fn model_arrive_all(lent: &mut Lent<Session, calls::Arrival>) {
     arrive_all(&mut lent.session, &mut lent.list);
+}
+
+/// One call of the library's meter.
+#[no_mangle]
+#[inline(never)]
+pub fn library_meter(question: &mut Question) -> Reply {
+    ask_library(question, &question.rows)
+}
+
+/// The model's meter, as the tests have it.
+#[no_mangle]
+#[inline(never)]
+pub fn model_meter(question: &mut Question) -> Reply {
+    reply_of(meter(question))
 }
