@@ -11,22 +11,23 @@
  * tick, or arrive_all for several of them; choose, if no choice is in force; run
  * what was chosen, with a timer for the span.
  *
- * Ownership. The caller owns the record, the words and the list; the library
- * keeps no pointer, has no global state, allocates nothing and needs no setup. Of
- * the C library it calls memcpy and memset only.
+ * Ownership. The caller owns the record, the words, the list and the rows; the
+ * library keeps no pointer, has no global state, allocates nothing and needs no
+ * setup. Of the C library it calls memcpy and memset only.
  *
  * Stack. No call takes more than 8,192 bytes of it, memcpy and memset not
  * counted.
  *
- * Time. Each call checks the record first. What that takes depends on the table
- * alone (docs/PERFORMANCE.md): time shuffle_is_sound on its fresh session once.
+ * Time. Each call on a record checks it first. What that takes depends on the
+ * table alone (docs/PERFORMANCE.md): time shuffle_is_sound on its fresh session
+ * once.
  *
  * Threads. Calls on different records may run at the same time. A record must
  * not be used by two calls at a time.
  *
  * Pointers must not be null, also where n is 0, and must be aligned for their
- * type. They must point to a whole record, to n words, or to a list of n
- * arrivals. Words and list must not overlap the record.
+ * type. They must point to a whole record, to n words, to n rows, or to a list
+ * of n arrivals. Words and list must not overlap the record.
  *
  * Contents. A record of any content may be handed in; if it is not sound
  * (section 5.2), every call on it answers 5, arrive_all in each place of its
@@ -105,6 +106,8 @@ enum shuffle_number {
     SHUFFLE_IDLING = 11,
     /* Advance: the clock would pass its end. Values: 2 to the 53rd. */
     SHUFFLE_CLOCK_ENDS = 12,
+
+    /* 13 is what the program prints of a line that it can't read; no call gives it. */
 
     /* The meter, which has no record: stretches, ticks, window or n breaks its rule. Values: none. */
     SHUFFLE_BAD_SHAPE = 14
@@ -214,16 +217,16 @@ int64_t shuffle_budget(const uint32_t *words, size_t n, uint64_t row);
  * other byte. Two stretches are alike at a tick if their intervals of `window`
  * ticks from there on, around the end of each stretch, differ in at most
  * `threshold` ticks. First value: the sum, over each tick of each stretch, of
- * g(stretches) - g(c), where c stretches, itself included, are alike there and
+ * g(stretches) - g(c), where c stretches, itself among them, are like it there and
  * g(x) is 8 log2 x rounded down. 0: equal stretches. At most, if each is unlike
  * every other at each tick: n * g(stretches), so 1,032,192 at most.
  *
  * Refusal: 14, unless 1 <= stretches <= 255, 1 <= window <= ticks and
  * n = stretches * ticks <= SHUFFLE_METER_TICKS. Every threshold is accepted.
  *
- * It takes time with stretches * stretches * ticks, whatever the window is, up
- * to some milliseconds; it uses no memory but its stack and keeps no session, so
- * it may run on another machine than the scheduler.
+ * Its time grows with stretches * stretches * ticks, whatever the window is, up to
+ * some milliseconds, and it takes no memory but its stack. It has no record, so it
+ * may run elsewhere than the scheduler.
  */
 shuffle_reply shuffle_meter(const uint8_t *rows, size_t n, size_t stretches, size_t ticks, size_t window,
                             uint64_t threshold);

@@ -288,8 +288,8 @@ pub fn budget(words: &[u32], row: u64) -> i64 {
 /// `stretches` stretches of `ticks` ticks one after another, a row number per tick, 16 for idle or
 /// any other byte. Two stretches are alike at a tick if their intervals of `window` ticks from there
 /// on, around the end of each stretch, differ in at most `threshold` ticks. First value: the sum,
-/// over each tick of each stretch, of g(stretches) − g(c), where c stretches, itself included, are
-/// alike there and g(x) is 8 log2 x rounded down. 0: equal stretches. At most, if each is unlike
+/// over each tick of each stretch, of g(stretches) − g(c), where c stretches, itself among them, are
+/// like it there and g(x) is 8 log2 x rounded down. 0: equal stretches. At most, if each is unlike
 /// every other at each tick: g(stretches) for each row.
 ///
 /// Refusal: 14, unless 1 ≤ stretches ≤ 255, 1 ≤ window ≤ ticks and the number of rows is

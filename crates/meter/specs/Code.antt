@@ -120,8 +120,8 @@ pub record Joins (h : Shape) (t r : ℕ) : Type 0 where
 pub joins-fits : (a : List ℕ) (h : Shape) (t m : ℕ) → Shaped a h → t < h .ticks → m ≡ h .window → Fits w64 (t + m)
 joins-fits a h t m f l e = record { fits = omega (arith, ticks-few a h f, f .within) }
 
-pub joins-may : (a : List ℕ) (h : Shape) (t m z : ℕ) → Shaped a h → t < h .ticks → m ≡ h .window → z ≡ h .ticks → (1 ≤ z) × (t + m < z + z)
-joins-may a h t m z f l e g = (omega arith, omega (arith, f .within))
+pub joins-may : (a : List ℕ) (h : Shape) (t m z : ℕ) → Shaped a h → t < h .ticks → m ≡ h .window → z ≡ h .ticks → t + m < z + z
+joins-may a h t m z f l e g = omega (arith, f .within)
 
 pub joins-is : (h : Shape) (t m z r : ℕ) → t < h .ticks → m ≡ h .window → z ≡ h .ticks → r ≡ (t + m) % z → Joins h t r
 joins-is h t m z r l e g w =

@@ -2,7 +2,6 @@
 use Prim.Native.Nat.{ℕ}
 use mathlib.Core.Path.{_≡_, refl}
 use mathlib.Core.List.{List, [], _∷_}
-use lib.ListN.{length, getD}
 use Rattle.bounded.specs.Tests.{gate}
 use Rattle.bounded.specs.Least.{leastFrom}
 use Rattle.bounded.specs.Sum.{sumTo}

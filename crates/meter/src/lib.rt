@@ -75,9 +75,9 @@ fn first_counts(s: &[u8], h: Shape, k: usize) -> [u16; 255]
     counts
 }
 
-// A place past the end of a stretch of l ticks, counted around it.
+// Tick x, counted around the end of a stretch of l ticks.
 fn around(x: usize, l: usize) -> usize
-    requires { ⌜ (1 ≤ l) × (x < l + l) ⌝ }
+    requires { ⌜ x < l + l ⌝ }
     ensures { λ r. ⌜ r ≡ x % l ⌝ }
 {
     if x < l {
@@ -142,6 +142,7 @@ fn alike_at(s: &[u8], h: Shape, k: usize, t: usize, counts: &mut [u16; 255]) -> 
     c
 }
 
+// The gap of c.
 fn entry(gaps: &[u64; 255], c: u64) -> u64
     requires { ⌜ (1 ≤ c) × (c ≤ 255) ⌝ }
     ensures { λ r. ⌜ r ≡ getD (now (gaps .entry)) (c - 1) 0 ⌝ }
