@@ -268,7 +268,7 @@ fn wide(x: u8) -> u64
     x as u64
 }
 
-// g(n), of a number of stretches.
+// g(n). Internal: `measure` has tested the number of stretches, and 0 has no logarithm.
 pub fn eighths(n: u64) -> u64
     requires { ⌜ (1 ≤ n) × (n ≤ 255) ⌝ }
     ensures { λ r. ⌜ Eighths n r ⌝ }
