@@ -1,4 +1,6 @@
 // Sums, searches and quotients over an index, and their laws, stand in specs/.
+ghost use mathlib.Core.Path.{_≡_};
+ghost use Prim.Native.Nat.{_-_};
 ghost use Rattle.bounded.specs.Tests.{gate};
 ghost use Rattle.bounded.specs.Within.{Within};
 
@@ -10,4 +12,11 @@ pub fn one(b: bool) -> u64
         return 1;
     }
     0
+}
+
+// a − b, and 0 where b is more.
+pub fn less(a: u64, b: u64) -> u64
+    ensures { λ r. ⌜ r ≡ a - b ⌝ }
+{
+    if a < b { 0 } else { a - b }
 }

@@ -1,12 +1,12 @@
 // The clock rises (docs/SPECIFICATION.md §5.5).
 ghost use mathlib.Core.Path.{_≡_};
 ghost use mathlib.Core.Bool.{true};
-ghost use Prim.Native.Nat.{_-_};
 ghost use Rattle.bounded.specs.Within.{Within};
 ghost use Rattle.session.specs.Sound.{sound};
 ghost use Rattle.session.specs.Calls.{overBy, steppedOf, advanceIn, advanceOf};
 ghost use Rattle.calls.specs.Code.{agedBy, placeOf, keptBy, Step};
 use super::over_job;
+use bounded::less;
 use session::Answer;
 use session::Job;
 use session::Outcome;
@@ -15,14 +15,8 @@ use session::refuse;
 use session::sound::is_ahead;
 use session::sound::is_sound;
 
-// a − b, and 0 where b is more. In a sound session it never is.
-fn less(a: u64, b: u64) -> u64
-    ensures { λ r. ⌜ r ≡ a - b ⌝ }
-{
-    if a < b { 0 } else { a - b }
-}
-
-// Row i's job after n ticks of the choice c, which is due at `due` where it is a row.
+// Row i's job after n ticks of the choice c, which is due at `due` where it is a row. In a sound session `less` cuts off
+// nothing.
 fn aged_job(j: Job, i: u64, c: u64, due: u64, n: u64) -> Job
     ensures { λ r. ⌜ r ≡ agedBy j i c due n ⌝ }
 {

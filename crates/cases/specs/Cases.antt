@@ -28,19 +28,17 @@ use Rattle.session.specs.Calls.{Shown, shown, three, arriveIn, chooseIn, jobsWi
 use Rattle.session.specs.Admit.{wordsTo, freshOf, sessionOf}
 use Rattle.guarantee.specs.Ledger.{Call, arrive, choose, advance, finish}
 use Rattle.guarantee.specs.Statement.{outcomeOf}
-use Rattle.table.specs.Compute.{quietTo, busy-is, not-overloaded, first-over, is-overloaded, answer-over, answer-tight}
+use Rattle.table.specs.Compute.{quietTo, busy-is, not-overloaded, first-over, answer-over, answer-tight}
 
 -- what is asked of the definitions
 pub data Question : Type 0 where
-  -- the answer on a table, where a refusal 3 names the given t
-  verdict : List ℕ → ℕ → Question
+  -- the answer on a table
+  verdict : List ℕ → Question
   -- V of each row
   budgets : List ℕ → Question
   busy : List ℕ → Question
-  -- the first t of the compared range whose demand exceeds it, and that demand
-  exceeded : List ℕ → Question
-  -- the session that admission gives, where a refusal 3 names the given t
-  opened : List ℕ → ℕ → Question
+  -- the session that admission gives
+  opened : List ℕ → Question
   -- whether a session is sound
   soundness : Session → Question
   -- the first in order of the waiting jobs of a session
@@ -55,7 +53,6 @@ pub data Reply : Type 0 where
   answer : ℕ → ℕ → ℕ → Reply
   values : List ℤ → Reply
   ticks : ℕ → Reply
-  tick : ℕ → ℕ → Reply
   fresh : Session → Reply
   flag : Bool → Reply
   row : ℕ → Reply
@@ -72,11 +69,10 @@ candidatesTo s (suc n) = candidatesFrom s n (permits s idle ∷ [])
     candidatesFrom s (suc n) l = candidatesFrom s n (candidate s (suc n) ∷ l)
 
 abbrev pub reply : Question → Reply
-reply (verdict l t) = answer (answerOf l t .number) (answerOf l t .first) (answerOf l t .second)
+reply (verdict l) = answer (answerOf l .number) (answerOf l .first) (answerOf l .second)
 reply (budgets l) = values (take (tasksOf l .rows) (valuesOf (tasksOf l)))
 reply (busy l) = ticks (busyLength (tasksOf l))
-reply (exceeded l) = tick (firstOverload (tasksOf l)) (demand (tasksOf l) (firstOverload (tasksOf l)))
-reply (opened l t) = fresh (sessionOf l t)
+reply (opened l) = fresh (sessionOf l)
 reply (soundness s) = flag (sound s)
 reply (head s) = row (headOf s)
 reply (chosenFrom s n) = flags (candidatesTo s n)
@@ -239,23 +235,22 @@ s₂With c n = at (job 10 10 2 5) (job 20 15 3 8) 0 c n
 
 pub cases : List Case
 cases =
-    is (verdict easy 0) (answer 0 1 3)
+    is (verdict easy) (answer 0 1 3)
     ∷ is (budgets easy) (values (pos 3 ∷ pos 8 ∷ pos 0 ∷ []))
-    ∷ is (verdict heavy 0) (answer 0 2 4)
+    ∷ is (verdict heavy) (answer 0 2 4)
     ∷ is (budgets heavy) (values (pos 1 ∷ pos 3 ∷ negℤ (pos 3) ∷ negℤ (pos 2) ∷ []))
     ∷ is (busy heavy) (ticks 9)
-    ∷ is (verdict long 0) (answer 0 2 4)
+    ∷ is (verdict long) (answer 0 2 4)
     ∷ is (busy long) (ticks 80)
-    ∷ is (verdict full 0) (answer 0 1 1)
+    ∷ is (verdict full) (answer 0 1 1)
     ∷ is (budgets full) (values (pos 0 ∷ []))
-    ∷ is (verdict over 6) (answer 3 6 7)
-    ∷ is (exceeded over) (tick 6 7)
-    ∷ is (verdict wrong 0) (answer 2 0 0)
-    ∷ is (verdict [] 0) (answer 1 0 0)
+    ∷ is (verdict over) (answer 3 6 7)
+    ∷ is (verdict wrong) (answer 2 0 0)
+    ∷ is (verdict []) (answer 1 0 0)
     ∷ is (soundness equal) (flag true)
     ∷ is (chosenFrom equal 3) (flags (true ∷ true ∷ false ∷ false ∷ []))
     ∷ is (head equal) (row 0)
-    ∷ is (opened unequal 0) (fresh u₀)
+    ∷ is (opened unequal) (fresh u₀)
     ∷ is (called u₀ (arrive 1)) (outcome (three 0 1 20) 0 u₁)
     ∷ is (called u₁ (choose (1 ∷ 9 ∷ []))) (outcome (three 0 16 10) 2 u₂)
     ∷ is (called u₂ (advance 10)) (outcome (three 0 0 0) 0 u₃)
@@ -266,7 +261,7 @@ cases =
     ∷ is (called u₄ (choose (1 ∷ []))) (outcome (three 0 0 1) 1 (u₅ 0))
     ∷ is (soundness early) (flag true)
     ∷ is (head early) (row 1)
-    ∷ is (opened behind 0) (fresh f₀)
+    ∷ is (opened behind) (fresh f₀)
     ∷ is (called f₀ (arrive 0)) (outcome (three 0 0 20) 0 f₁)
     ∷ is (called f₁ (arrive 1)) (outcome (three 0 1 30) 0 f₂)
     ∷ is (called f₂ (arrive 2)) (outcome (three 0 2 30) 0 f₃)
@@ -280,7 +275,7 @@ cases =
     ∷ is (called (f₆ 34) finish) (outcome (three 0 1 3) 0 (f₇ 36))
     ∷ is (called (f₆ 36) finish) (outcome (three 0 1 3) 0 (f₇ 36))
     ∷ is (called (f₆ 37) finish) (outcome (three 5 0 0) 0 (f₆ 37))
-    ∷ is (opened listing 0) (fresh s₀)
+    ∷ is (opened listing) (fresh s₀)
     ∷ is (called s₀ (arrive 0)) (outcome (three 0 0 10) 0 s₁)
     ∷ is (called s₁ (arrive 1)) (outcome (three 0 1 15) 0 s₂)
     ∷ is (called s₂ (choose (4 ∷ 9 ∷ []))) (outcome (three 0 1 1) 2 s₃)
@@ -301,35 +296,31 @@ cases =
 -- ---- the tables that are not loose, computed up to the tick that decides them
 
 -- rows that are not loose, on a slice that is a table of rows that keep their rule
-over-compared : overloaded (tasksOf over) ≡ true
+over-first : (6 ≡ firstOverload (tasksOf over)) × (overloaded (tasksOf over) ≡ true)
 unfolding tasksOf quietTo allTo demand request sumTo gate jobsBy ceilDiv
-over-compared = is-overloaded (tasksOf over) 5 refl (omega arith) (omega arith)
+over-first = first-over (tasksOf over) 5 refl (omega arith) (omega arith)
 
-over-verdict : reply (verdict over 6) ≡ answer 3 6 7
+over-verdict : reply (verdict over) ≡ answer 3 6 7
 unfolding badLength firstBroken broken rowRule tasksOf loose looseTo allTo budgetOf interference demand request sumTo gate jobsBy ceilDiv leastFrom
-over-verdict = rw (answer-over over 6 refl refl refl over-compared)
-
-over-exceeded : reply (exceeded over) ≡ tick 6 7
-unfolding tasksOf quietTo allTo demand request sumTo gate jobsBy ceilDiv
-over-exceeded = rw (first-over (tasksOf over) 5 refl (omega arith) (omega arith))
+over-verdict = rw (answer-over over refl refl refl 6 over-first)
 
 heavy-busy : busyLength (tasksOf heavy) ≡ 9
 unfolding tasksOf quietTo allTo demand request sumTo gate jobsBy ceilDiv
 heavy-busy = busy-is (tasksOf heavy) 8 refl (omega arith) refl
 
-heavy-verdict : reply (verdict heavy 0) ≡ answer 0 2 4
+heavy-verdict : reply (verdict heavy) ≡ answer 0 2 4
 unfolding badLength firstBroken broken rowRule tasksOf loose looseTo allTo budgetOf interference quietTo demand request sumTo gate jobsBy ceilDiv leastFrom
 heavy-verdict =
-    rw (answer-tight heavy 0 refl refl refl (not-overloaded (tasksOf heavy) 8 refl (omega arith) refl (omega arith)) (omega (arith, heavy-busy)))
+    rw (answer-tight heavy refl refl refl (not-overloaded (tasksOf heavy) 8 refl (omega arith) refl (omega arith)) (omega (arith, heavy-busy)))
 
 long-busy : busyLength (tasksOf long) ≡ 80
 unfolding tasksOf quietTo allTo demand request sumTo gate jobsBy ceilDiv
 long-busy = busy-is (tasksOf long) 79 refl (omega arith) refl
 
-long-verdict : reply (verdict long 0) ≡ answer 0 2 4
+long-verdict : reply (verdict long) ≡ answer 0 2 4
 unfolding badLength firstBroken broken rowRule tasksOf loose looseTo allTo budgetOf interference quietTo demand request sumTo gate jobsBy ceilDiv leastFrom
 long-verdict =
-    rw (answer-tight long 0 refl refl refl (not-overloaded (tasksOf long) 79 refl (omega arith) refl (omega arith)) (omega (arith, long-busy)))
+    rw (answer-tight long refl refl refl (not-overloaded (tasksOf long) 79 refl (omega arith) refl (omega arith)) (omega (arith, long-busy)))
 
 -- ---- every case holds
 
@@ -343,20 +334,20 @@ All (c ∷ l) = Holds c × All l
 pub every-case : All cases
 unfolding cases answerOf opinionOf badLength firstBroken broken rowRule tasksOf loose looseTo allTo budgetOf valuesOf valuesTo foldTo interference demand request sumTo gate jobsBy ceilDiv leastFrom rowsOf waits ahead startBy startBudget mostBudget soundRows soundWaiting soundJob runs affords soundChoice sound arrivalOf cameBefore before isHead headOf permits candidate candidates position rowWith candidateAt drawLimit passedOver draw drawUsed contested drawn pickOf room unopposed lengthDrawn spanOf pickUsed usedOf arriveIn chooseIn jobsWith agedJob overBy overAfter advanceIn gains givenJob finishIn arriveOf chooseOf advanceOf finishOf wordsTo freshOf sessionOf
 every-case =
-    (refl, (refl, (heavy-verdict, (refl, (rw heavy-busy, (long-verdict, (rw long-busy, (refl, (refl, (over-verdict, (over-exceeded, (refl, (refl, equals)))))))))))))
+    (refl, (refl, (heavy-verdict, (refl, (rw heavy-busy, (long-verdict, (rw long-busy, (refl, (refl, (over-verdict, (refl, (refl, equals))))))))))))
   where
     -- words that are passed over
-    passed : All (drop 52 cases)
+    passed : All (drop 51 cases)
     passed = (refl, (refl, (refl, (refl, (refl, tt)))))
 
     -- the listing
-    listed : All (drop 41 cases)
+    listed : All (drop 40 cases)
     listed = (refl, (refl, (refl, (refl, (refl, (refl, (refl, (refl, (refl, (refl, (refl, passed)))))))))))
 
     -- a finish that gives
-    gifts : All (drop 27 cases)
+    gifts : All (drop 26 cases)
     gifts = (refl, (refl, (refl, (refl, (refl, (refl, (refl, (refl, (refl, (refl, (refl, (refl, (refl, (refl, listed))))))))))))))
 
     -- equal deadlines
-    equals : All (drop 13 cases)
+    equals : All (drop 12 cases)
     equals = (refl, (refl, (refl, (refl, (refl, (refl, (refl, (refl, (refl, (refl, (refl, (refl, (refl, (refl, gifts))))))))))))))

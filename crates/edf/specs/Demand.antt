@@ -5,13 +5,13 @@ use mathlib.Core.Bool.{not}
 use mathlib.Core.Logic.{dite, _⊎_, inl, inr, ⊎-elim}
 use native.Mathlib.Nat.{mul-le-mul-left, one-le-mul}
 use native.Mathlib.Omega.{arith}
-use native.Mathlib.Decide.{decLe, ℕ-discrete}
+use native.Mathlib.Decide.{decLe, decLt, ℕ-discrete}
 use lib.Dec.{eqb}
 use borrow.Author.Tests.{eq-eqb, ne-eqb}
 use Rattle.bounded.specs.Tests.{gate, gate-on, gate-off}
-use Rattle.bounded.specs.Sum.{sumTo, sum-le, sum-add, sum-term, sum-zero, sum-eq-at}
+use Rattle.bounded.specs.Sum.{sumTo, sum-le, sum-lt, sum-add, sum-term, sum-zero, sum-eq-at}
 use Rattle.bounded.specs.Quotient.{ceilDiv, ceil-mono, ceil-more, ceil-one}
-use Rattle.edf.specs.Jobs.{jobsBy, jobs-none, jobs-mono, jobs-split}
+use Rattle.edf.specs.Jobs.{jobsBy, jobs-none, jobs-mono, jobs-rise, jobs-split}
 
 -- ---- definitions
 
@@ -122,12 +122,30 @@ module _ (τ : TaskSet) (ok : Lawful τ) where
   demand-none t none =
       sum-zero (rowDemand τ t) (τ .rows) (λ i l. rw (jobs-none (τ .D i) (τ .T i) t (none i l)) (omega arith))
 
+  -- and so it is at 0
+  pub demand-start : demand τ 0 ≤ 0
+  demand-start = omega (arith, demand-none 0 (λ i l. omega (arith, ok i l)))
+
+  -- the first tick that is exceeded is a deadline, where the jobs of each row arrive at 0, T, 2 T, ..: there the demand rises
+  pub demand-due : (t : ℕ) → t < demand τ t → ((x : ℕ) → x < t → demand τ x ≤ x)
+      → (i : ℕ) × (j : ℕ) × (i < τ .rows) × (t ≡ j * τ .T i + τ .D i)
+  unfolding demand
+  demand-due zero over before = absurd (omega (arith, demand-start))
+  demand-due (suc t) over before =
+      let r = sum-lt (rowDemand τ t) (rowDemand τ (suc t)) (τ .rows) (omega (arith, before t (omega arith))) in
+      (r .0, jobsBy (τ .D (r .0)) (τ .T (r .0)) t, r .1, jobs-rise (τ .D (r .0)) (τ .T (r .0)) t (omega (arith, ok (r .0) (r .1))) (more (r .0) (r .2)))
+    where
+      more : (i : ℕ) → rowDemand τ t i < rowDemand τ (suc t) i → jobsBy (τ .D i) (τ .T i) t < jobsBy (τ .D i) (τ .T i) (suc t)
+      more i h =
+          dite (decLt (jobsBy (τ .D i) (τ .T i) t) (jobsBy (τ .D i) (τ .T i) (suc t))) (λ l. l)
+          (λ l. absurd (omega (arith, mul-le-mul-left {m = jobsBy (τ .D i) (τ .T i) (suc t)} {n = jobsBy (τ .D i) (τ .T i) t} (τ .C i) (omega arith))))
+
   -- The busy length is enough (§3.1): where all that arrives in a stretch L can be done in it, demand need be compared
   -- for t up to L only.
   pub busy-suffices : (L : ℕ) → 1 ≤ L → request τ L ≤ L → ((t : ℕ) → 1 ≤ t → t ≤ L → demand τ t ≤ t) → Feasible τ
   busy-suffices L one closed near =
       strong (λ t. demand τ t ≤ t)
-      (λ t ih. dite (ℕ-discrete t 0) (λ z. rw (z, demand-none 0 (λ i l. omega (arith, ok i l))) (omega arith))
+      (λ t ih. dite (ℕ-discrete t 0) (λ z. rw z demand-start)
       (λ ne. dite (decLe t L) (λ l. near t (omega arith) l)
       (λ l. omega (arith, demand-split L t (omega arith), ih (t - L) (omega arith)))))
 

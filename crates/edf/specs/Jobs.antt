@@ -47,6 +47,10 @@ jobs-few D T t h = jobs-least D T t (suc t) h (omega (arith, mul-le-mul-left {m 
 pub jobs-mono : (D T t s : ℕ) → 1 ≤ T → t ≤ s → jobsBy D T t ≤ jobsBy D T s
 jobs-mono D T t s h l = jobs-least D T t (jobsBy D T s) h (omega (arith, jobs-after D T s h))
 
+-- where one more is due than a tick before, it is due at that tick
+pub jobs-rise : (D T t : ℕ) → 1 ≤ T → jobsBy D T t < jobsBy D T (suc t) → suc t ≡ jobsBy D T t * T + D
+jobs-rise D T t h l = omega (arith, jobs-after D T t h, jobs-last D T (suc t) (jobsBy D T t) h l)
+
 -- the first of them taken off
 pub jobs-first : (D T t : ℕ) → 1 ≤ D → D ≤ T → D ≤ t → jobsBy D T t ≡ suc (jobsBy D T (t - T))
 jobs-first D T t d h l =

@@ -38,7 +38,7 @@ follows-arrived τ i j l some (latest {e = e} q (waiting b u p a c) r) = record 
 
 pub arrivals-told : ArrivalsTold
 unfolding arrivalOf waits
-arrivals-told l t e calls i h w =
-    let s = sessionAfter (sessionOf l t) calls in
-    rw (good-reached l t e calls .rows)
-    (follows-arrived (tasksOf l) i (jobAt s i) _ (ltb-true 0 (jobAt s i .left) w) (tied-reached l t e calls .rows i))
+arrivals-told l e calls i h w =
+    let s = sessionAfter (sessionOf l) calls in
+    rw (good-reached l e calls .rows)
+    (follows-arrived (tasksOf l) i (jobAt s i) _ (ltb-true 0 (jobAt s i .left) w) (tied-reached l e calls .rows i))

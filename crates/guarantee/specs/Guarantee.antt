@@ -48,13 +48,13 @@ tied-after l g s good tied (c ∷ calls) =
     rw (ledger-more (tasksOf l) g (eventsBy s c) (eventsOf (sessionBy s c) calls))
     (tied-after l _ (sessionBy s c) (good-by l s good c) (tied-by l g s good tied c) calls)
 
-pub tied-reached : (l : List ℕ) (t : ℕ) → answerOf l t .number ≡ 0 → (calls : List HostCall)
-    → Tied l (ledgerOf (tasksOf l) (eventsOf (sessionOf l t) calls)) (sessionAfter (sessionOf l t) calls)
-tied-reached l t e calls = tied-after l empty (sessionOf l t) (good-fresh l t e) (tied-fresh l t e) calls
+pub tied-reached : (l : List ℕ) → answerOf l .number ≡ 0 → (calls : List HostCall)
+    → Tied l (ledgerOf (tasksOf l) (eventsOf (sessionOf l) calls)) (sessionAfter (sessionOf l) calls)
+tied-reached l e calls = tied-after l empty (sessionOf l) (good-fresh l e) (tied-fresh l e) calls
 
 -- NO JOB IS LATE
 pub no-job-late : NoJobLate
-no-job-late l t e calls = tied-timely l _ _ (good-reached l t e calls) (tied-reached l t e calls)
+no-job-late l e calls = tied-timely l _ _ (good-reached l e calls) (tied-reached l e calls)
 
 -- ONE BY ONE
 pub one-by-one : OneByOne

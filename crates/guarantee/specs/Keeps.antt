@@ -53,11 +53,11 @@ good-after l s g [] = g
 good-after l s g (c ∷ calls) = good-after l (sessionBy s c) (good-by l s g c) calls
 
 -- the session reached from a fresh one
-pub good-reached : (l : List ℕ) (t : ℕ) → answerOf l t .number ≡ 0 → (calls : List HostCall) → Good l (sessionAfter (sessionOf l t) calls)
-good-reached l t e calls = good-after l (sessionOf l t) (good-fresh l t e) calls
+pub good-reached : (l : List ℕ) → answerOf l .number ≡ 0 → (calls : List HostCall) → Good l (sessionAfter (sessionOf l) calls)
+good-reached l e calls = good-after l (sessionOf l) (good-fresh l e) calls
 
 pub always-sound : AlwaysSound
-always-sound l t e calls = good-reached l t e calls .sound
+always-sound l e calls = good-reached l e calls .sound
 
 -- a sound session's refusals begin at 6
 pub not-five : {s s′ : Session} {c : Call} {a : Answer} → Effect s c s′ a → shown a .number ≡ 5 → ⊥
@@ -79,14 +79,14 @@ no-five l s g (single c) = (not-five (effect-of s (g .sound) c), tt)
 no-five l s g (batch rs) = none-five l s g rs
 
 pub never-five : NeverFive
-never-five l t e calls c = no-five l (sessionAfter (sessionOf l t) calls) (good-reached l t e calls) c
+never-five l e calls c = no-five l (sessionAfter (sessionOf l) calls) (good-reached l e calls) c
 
 -- a finish that is accepted is not cut
 pub cap-cuts-nothing : CapCutsNothing
-cap-cuts-nothing l t e calls z i h w =
-    let g = good-reached l t e calls in
-    by (subst (λ (x : List ℕ). Good x (sessionAfter (sessionOf l t) calls)) (sym (g .rows)) g)
-    (effect-of (sessionAfter (sessionOf l t) calls) (g .sound) finish) z (omega (arith, g .count)) w
+cap-cuts-nothing l e calls z i h w =
+    let g = good-reached l e calls in
+    by (subst (λ (x : List ℕ). Good x (sessionAfter (sessionOf l) calls)) (sym (g .rows)) g)
+    (effect-of (sessionAfter (sessionOf l) calls) (g .sound) finish) z (omega (arith, g .count)) w
   where
     by : {s s′ : Session} {a : Answer} → Good (rowsOf s) s → Effect s finish s′ a → shown a .number ≡ 0 → i < s .count → gains s i ≡ true
         → GainsAll s s′ a i
@@ -110,6 +110,6 @@ unsound-five s e (a ∷ l) =
 
 pub always-five : AlwaysFive
 unfolding sessionOf
-always-five l t ne =
-    simp (ne-eqb (answerOf l t .number) 0 ne)
+always-five l ne =
+    simp (ne-eqb (answerOf l .number) 0 ne)
     (record { one = λ c. rw (unsound-refused noSession c none-unsound) (refl, refl, refl); all = unsound-five noSession none-unsound })

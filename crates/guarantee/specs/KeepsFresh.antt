@@ -14,7 +14,7 @@ use Rattle.edf.specs.Steps.{Start}
 use Rattle.table.specs.Rows.{tasksOf, Fit}
 use Rattle.table.specs.Verdict.{Answer, badLength, answerOf}
 use Rattle.table.specs.Assess.{good-length}
-use Rattle.table.specs.Theorems.{answer-fit, answer-admitted, admitted-fits}
+use Rattle.table.specs.Theorems.{answer-fit, admitted-fits}
 use Rattle.session.specs.declared.Job.{Job}
 use Rattle.session.specs.declared.Session.{Session}
 use Rattle.session.specs.Reading.{noJob, jobAt, rowsOf, waits, stateOf}
@@ -65,26 +65,26 @@ fresh-job l kind i = no-job 16 i
 
 -- ---- the session
 
-module _ (l : List ℕ) (t : ℕ) (e : answerOf l t .number ≡ 0) where
+module _ (l : List ℕ) (e : answerOf l .number ≡ 0) where
   abbrev fresh : Session
-  fresh = freshOf l (answerOf l t .first)
+  fresh = freshOf l (answerOf l .first)
 
   fit : Fit (tasksOf l)
-  fit = answer-fit l t e
+  fit = answer-fit l e
 
   rows : rowsOf fresh ≡ l
-  rows = fresh-rows l (answerOf l t .first) (answer-length l t e)
+  rows = fresh-rows l (answerOf l .first) (answer-length l e)
 
   -- the answer is the one that soundness looks at
-  answer : answerOf (rowsOf fresh) 0 ≡ answerOf l t
-  answer = rw rows (sym (answer-admitted l t 0 e .0))
+  answer : answerOf (rowsOf fresh) ≡ answerOf l
+  answer = ap answerOf rows
 
   fresh-start : Start (tasksOf l) (stateOf fresh)
   unfolding freshOf waits
   fresh-start = record {
     clock = refl;
-    next = λ i u. ap (λ (j : Job). j .next) (fresh-job l (answerOf l t .first) i);
-    waits = λ i u. ap (λ (j : Job). ltb 0 (j .left)) (fresh-job l (answerOf l t .first) i);
+    next = λ i u. ap (λ (j : Job). j .next) (fresh-job l (answerOf l .first) i);
+    waits = λ i u. ap (λ (j : Job). ltb 0 (j .left)) (fresh-job l (answerOf l .first) i);
   }
 
   fresh-facts : Facts fresh
@@ -103,14 +103,14 @@ module _ (l : List ℕ) (t : ℕ) (e : answerOf l t .number ≡ 0) where
   unfolding freshOf tasksOf
   fresh-good = record {
     fit = fit;
-    feasible = admitted-fits l t e;
+    feasible = admitted-fits l e;
     rows = rows;
     count = refl;
     places = length-replicate 16 noJob;
     sound = sound-of fresh fresh-facts;
-    safe = as-start (tasksOf l) fit (admitted-fits l t e) (stateOf fresh) (answerOf l t .first) (answer-kind l t e) fresh-start;
+    safe = as-start (tasksOf l) fit (admitted-fits l e) (stateOf fresh) (answerOf l .first) (answer-kind l e) fresh-start;
   }
 
-pub good-fresh : (l : List ℕ) (t : ℕ) → answerOf l t .number ≡ 0 → Good l (sessionOf l t)
+pub good-fresh : (l : List ℕ) → answerOf l .number ≡ 0 → Good l (sessionOf l)
 unfolding sessionOf
-good-fresh l t e = simp (eq-eqb (answerOf l t .number) 0 e) (fresh-good l t e)
+good-fresh l e = simp (eq-eqb (answerOf l .number) 0 e) (fresh-good l e)

@@ -55,7 +55,7 @@ module _ (s : Session) (g : Good (rowsOf s) s) where
   good-facts = facts-of s (g .sound)
 
   pub good-kind : Kind (tasks s) (s .kind)
-  good-kind = let f = good-facts in rw (f .kind) at (answer-kind (rowsOf s) 0 (f .admitted))
+  good-kind = let f = good-facts in rw (f .kind) at (answer-kind (rowsOf s) (f .admitted))
 
   pub good-bounds : (i : ℕ) → i < s .count → Bounds (tasks s) s i
   good-bounds i l = record { next = good-facts .next i l; budget = λ w. good-facts .job i l w .budget }

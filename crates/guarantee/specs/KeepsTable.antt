@@ -21,17 +21,17 @@ use Rattle.session.specs.Reading.{natural, startBy, startBudget, mostBudget}
 
 -- ---- the kind
 
-pub answer-length : (l : List ℕ) (t : ℕ) → answerOf l t .number ≡ 0 → badLength (length l) ≡ false
+pub answer-length : (l : List ℕ) → answerOf l .number ≡ 0 → badLength (length l) ≡ false
 unfolding answerOf
-answer-length l t z = both (badLength (length l)) (λ e. let x : 1 ≡ 0 = simp e at z in absurd (omega arith)) (λ e. e)
+answer-length l z = both (badLength (length l)) (λ e. let x : 1 ≡ 0 = simp e at z in absurd (omega arith)) (λ e. e)
 
 -- 1 where the table is loose, and otherwise 2
 abbrev pub Kind : TaskSet → ℕ → Type 0
 Kind τ k = ((k ≡ 1) × (loose τ ≡ true)) ⊎ (k ≡ 2)
 
-pub answer-kind : (l : List ℕ) (t : ℕ) → answerOf l t .number ≡ 0 → Kind (tasksOf l) (answerOf l t .first)
-answer-kind l t z =
-    ⊎-elim (λ a. inl (ap (λ (x : Answer). x .first) (a .1 t), a .0)) (λ a. inr (ap (λ (x : Answer). x .first) (a t))) (answer-as l t z)
+pub answer-kind : (l : List ℕ) → answerOf l .number ≡ 0 → Kind (tasksOf l) (answerOf l .first)
+answer-kind l z =
+    ⊎-elim (λ a. inl (ap (λ (x : Answer). x .first) (a .1), a .0)) (λ a. inr (ap (λ (x : Answer). x .first) (a .2))) (answer-as l z .1)
 
 -- ---- the starting budget
 

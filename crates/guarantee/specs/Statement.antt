@@ -10,7 +10,7 @@ use lib.IntN.{ℤ, pos}
 use Rattle.edf.specs.Demand.{TaskSet}
 use Rattle.table.specs.Rows.{tasksOf}
 use Rattle.table.specs.Verdict.{answerOf}
-pub use Rattle.table.specs.Theorems.{OverloadDeserved}
+pub use Rattle.table.specs.Statement.{OverloadDeserved}
 use Rattle.session.specs.declared.Session.{Session}
 use Rattle.session.specs.declared.Answer.{Answer}
 use Rattle.session.specs.declared.Arrival.{Arrival}
@@ -78,12 +78,12 @@ InTime τ g = AllTimely τ (g .clock) (g .entries)
 -- NO JOB IS LATE: from the fresh session of every admitted table, after every list of calls
 abbrev pub NoJobLate : Type 0
 NoJobLate =
-    (l : List ℕ) (t : ℕ) → answerOf l t .number ≡ 0
-    → (calls : List HostCall) → InTime (tasksOf l) (ledgerOf (tasksOf l) (eventsOf (sessionOf l t) calls))
+    (l : List ℕ) → answerOf l .number ≡ 0
+    → (calls : List HostCall) → InTime (tasksOf l) (ledgerOf (tasksOf l) (eventsOf (sessionOf l) calls))
 
 -- the session reached is sound, so that no call from a fresh session is refused with 5
 abbrev pub AlwaysSound : Type 0
-AlwaysSound = (l : List ℕ) (t : ℕ) → answerOf l t .number ≡ 0 → (calls : List HostCall) → sound (sessionAfter (sessionOf l t) calls) ≡ true
+AlwaysSound = (l : List ℕ) → answerOf l .number ≡ 0 → (calls : List HostCall) → sound (sessionAfter (sessionOf l) calls) ≡ true
 
 -- none of these answers is 5
 abbrev pub NoFive : List Event → Type 0
@@ -92,8 +92,8 @@ NoFive (e ∷ l) = (e .answer .number ≡ 5 → ⊥) × NoFive l
 
 abbrev pub NeverFive : Type 0
 NeverFive =
-    (l : List ℕ) (t : ℕ) → answerOf l t .number ≡ 0
-    → (calls : List HostCall) (c : HostCall) → NoFive (eventsBy (sessionAfter (sessionOf l t) calls) c)
+    (l : List ℕ) → answerOf l .number ≡ 0
+    → (calls : List HostCall) (c : HostCall) → NoFive (eventsBy (sessionAfter (sessionOf l) calls) c)
 
 -- ONE BY ONE: a batch leaves the session that its arrives leave one by one, and its records, rows and answers, are these
 -- arrives with their answers
@@ -121,7 +121,7 @@ pub record Fives (s : Session) : Type 0 where
   pub all : (l : List Arrival) → EachFive s l
 
 abbrev pub AlwaysFive : Type 0
-AlwaysFive = (l : List ℕ) (t : ℕ) → (answerOf l t .number ≡ 0 → ⊥) → Fives (sessionOf l t)
+AlwaysFive = (l : List ℕ) → (answerOf l .number ≡ 0 → ⊥) → Fives (sessionOf l)
 
 -- EQUAL CALLS GIVE EQUAL SCHEDULES: equal calls, with equal words, on equal sessions have equal outcomes. This holds of
 -- every function; that the code computes this one is the contract of each call.
@@ -155,9 +155,9 @@ pub record Arrived (i : ℕ) (a : ℤ) (l : List Entry) : Type 0 where
 -- arrival by which a waiting job is ordered is the one that the ledger has of it
 abbrev pub ArrivalsTold : Type 0
 ArrivalsTold =
-    (l : List ℕ) (t : ℕ) → answerOf l t .number ≡ 0
-    → (calls : List HostCall) (i : ℕ) → i < tasksOf l .rows → waits (sessionAfter (sessionOf l t) calls) i ≡ true
-    → Arrived i (arrivalOf (sessionAfter (sessionOf l t) calls) i) (ledgerOf (tasksOf l) (eventsOf (sessionOf l t) calls) .entries)
+    (l : List ℕ) → answerOf l .number ≡ 0
+    → (calls : List HostCall) (i : ℕ) → i < tasksOf l .rows → waits (sessionAfter (sessionOf l) calls) i ≡ true
+    → Arrived i (arrivalOf (sessionAfter (sessionOf l) calls) i) (ledgerOf (tasksOf l) (eventsOf (sessionOf l) calls) .entries)
 
 -- row i's job gains all of the ticks that the answer a of a finish reports as unused, which leads from s to s′: the cap,
 -- D − C, does not cut
@@ -169,11 +169,11 @@ pub record GainsAll (s s′ : Session) (a : Answer) (i : ℕ) : Type 0 where
 -- each job that gains has all of the unused ticks as budget besides its own
 abbrev pub CapCutsNothing : Type 0
 CapCutsNothing =
-    (l : List ℕ) (t : ℕ) → answerOf l t .number ≡ 0
-    → (calls : List HostCall) → shown (finishOf (sessionAfter (sessionOf l t) calls) .answer) .number ≡ 0
-    → (i : ℕ) → i < tasksOf l .rows → gains (sessionAfter (sessionOf l t) calls) i ≡ true
-    → GainsAll (sessionAfter (sessionOf l t) calls) (finishOf (sessionAfter (sessionOf l t) calls) .session)
-    (finishOf (sessionAfter (sessionOf l t) calls) .answer) i
+    (l : List ℕ) → answerOf l .number ≡ 0
+    → (calls : List HostCall) → shown (finishOf (sessionAfter (sessionOf l) calls) .answer) .number ≡ 0
+    → (i : ℕ) → i < tasksOf l .rows → gains (sessionAfter (sessionOf l) calls) i ≡ true
+    → GainsAll (sessionAfter (sessionOf l) calls) (finishOf (sessionAfter (sessionOf l) calls) .session)
+    (finishOf (sessionAfter (sessionOf l) calls) .answer) i
 
 -- the head is the only candidate
 pub record HeadOnly (s : Session) : Type 0 where

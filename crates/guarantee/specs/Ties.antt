@@ -159,12 +159,12 @@ module _ (l : List ℕ) (g : Ledger) (s : Session) (good : Good l s) (tied : Tie
 
 -- ---- a fresh session: no entry, and no job
 
-pub tied-fresh : (l : List ℕ) (t : ℕ) → answerOf l t .number ≡ 0 → Tied l empty (sessionOf l t)
+pub tied-fresh : (l : List ℕ) → answerOf l .number ≡ 0 → Tied l empty (sessionOf l)
 unfolding sessionOf freshOf
-tied-fresh l t e =
+tied-fresh l e =
     simp (eq-eqb _ _ e)
     (record {
       clock = refl;
       chosen = λ force. absurd (omega arith);
-      rows = λ i. nothing (ap (λ (j : Job). j .left) (fresh-job l (answerOf l t .first) i));
+      rows = λ i. nothing (ap (λ (j : Job). j .left) (fresh-job l (answerOf l .first) i));
     })

@@ -30,7 +30,7 @@ same-events s [] = refl
 same-events s (c ∷ l) = rw (same-by (c .0) s (c .1), same-events (sessionBy s (c .1)) l)
 
 pub no-job-late-any-form : NoJobLateAnyForm
-no-job-late-any-form l t e calls = rw (same-events (sessionOf l t) calls) (no-job-late l t e (callsOf calls))
+no-job-late-any-form l e calls = rw (same-events (sessionOf l) calls) (no-job-late l e (callsOf calls))
 
 pub never-five-any-form : NeverFiveAnyForm
-never-five-any-form l t e calls f c = rw (same-by f (sessionAfter (sessionOf l t) calls) c) (never-five l t e calls c)
+never-five-any-form l e calls f c = rw (same-by f (sessionAfter (sessionOf l) calls) c) (never-five l e calls c)

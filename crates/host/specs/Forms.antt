@@ -45,11 +45,11 @@ eventsIn s (c ∷ l) = eventsByForm (c .0) s (c .1) ++ eventsIn (sessionBy s (c 
 -- value, on the lent record or through an export, and batches among them
 abbrev pub NoJobLateAnyForm : Type 0
 NoJobLateAnyForm =
-    (l : List ℕ) (t : ℕ) → answerOf l t .number ≡ 0
-    → (calls : List (Form × HostCall)) → InTime (tasksOf l) (ledgerOf (tasksOf l) (eventsIn (sessionOf l t) calls))
+    (l : List ℕ) → answerOf l .number ≡ 0
+    → (calls : List (Form × HostCall)) → InTime (tasksOf l) (ledgerOf (tasksOf l) (eventsIn (sessionOf l) calls))
 
 -- and no call from such a session answers 5, in any form, nor does a record of a batch hold it
 abbrev pub NeverFiveAnyForm : Type 0
 NeverFiveAnyForm =
-    (l : List ℕ) (t : ℕ) → answerOf l t .number ≡ 0
-    → (calls : List HostCall) (f : Form) (c : HostCall) → NoFive (eventsByForm f (sessionAfter (sessionOf l t) calls) c)
+    (l : List ℕ) → answerOf l .number ≡ 0
+    → (calls : List HostCall) (f : Form) (c : HostCall) → NoFive (eventsByForm f (sessionAfter (sessionOf l) calls) c)

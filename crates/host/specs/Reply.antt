@@ -3,8 +3,7 @@ use Prim.Native.Nat.{ℕ}
 use mathlib.Core.Path.{_≡_, sym, ap}
 use mathlib.Core.List.{List}
 use Rattle.table.specs.declared.Numbers as verdict
-use Rattle.table.specs.Rows.{tasksOf}
-use Rattle.table.specs.Verdict.{Answer, answerOf, Exceeded}
+use Rattle.table.specs.Verdict.{Answer, answerOf}
 use Rattle.table.specs.Assess as table
 use Rattle.session.specs.declared.Session.{Session}
 use Rattle.session.specs.declared.Numbers.{Numbers}
@@ -32,12 +31,6 @@ answered a = record { number = a .number; used = 0; first = a .first; second = a
 unfoldable pub verdictOf : Admission → Reply
 verdictOf a = answered (table.shownOf (a .assessment))
 
--- the contract of `shuffle_admit`: the answer on the slice, with the t that a refusal 3 names, and the session that it gives
-pub record Opened (l : List ℕ) (r : Reply) (s : Session) : Type 0 where
-  pub answer : r ≡ answered (answerOf l (r .first))
-  pub witness : r .number ≡ 3 → Exceeded (tasksOf l) (r .first)
-  pub session : s ≡ sessionOf l (r .first)
-
 -- ---- the code
 
 pub reply-is : (o : Outcome) (n : Numbers) → Shows (shown (o .answer)) n
@@ -50,7 +43,6 @@ pub verdict-is : (a : Admission) (n : verdict.Numbers) → table.Shows (a .asses
 unfolding verdictOf
 verdict-is a n h = sym (ap answered (table.shows-of (a .assessment) n h))
 
-pub opened : (l : List ℕ) (a : Admission) → Admitted l a → Opened l (verdictOf a) (a .session)
+pub opened : (l : List ℕ) (a : Admission) → Admitted l a → (verdictOf a ≡ answered (answerOf l)) × (a .session ≡ sessionOf l)
 unfolding verdictOf
-opened l a h =
-    record { answer = ap answered (h .answer .answer); witness = h .answer .witness; session = h .session }
+opened l a h = (ap answered (h .answer), h .session)

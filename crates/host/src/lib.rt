@@ -1,11 +1,13 @@
 // The library for C: the calls on a session record of the host, a batch of arrivals among them, and V of a table's rows
 // (docs/SPECIFICATION.md §9). A slice passes as a pointer and a length.
 ghost use mathlib.Core.Path.{_≡_};
+ghost use Rattle.table.specs.Verdict.{answerOf};
+ghost use Rattle.session.specs.Admit.{sessionOf};
 ghost use Rattle.session.specs.Calls.{arriveOf, chooseOf, advanceOf, finishOf};
 ghost use Rattle.session.specs.Batch.{afterAll, answeredAll};
 ghost use Rattle.meter.specs.Meter.{measureOf};
 ghost use Rattle.host.specs.Meter.{meterReply, shapeOf};
-ghost use Rattle.host.specs.Reply.{replyOf, verdictOf, Opened};
+ghost use Rattle.host.specs.Reply.{replyOf, verdictOf, answered};
 ghost use Rattle.host.specs.Numbers.{soundNumber, budgetAt};
 use meter::Meter;
 use meter::Shape;
@@ -65,7 +67,7 @@ fn sound_number(s: Session) -> u32
 // What the record held before does not matter.
 #[no_mangle]
 pub extern "C" fn shuffle_admit(s: &mut Session, words: &[u32]) -> Reply
-    ensures { λ r. ⌜ Opened (now (words .entry)) r (now (s .exit)) ⌝ }
+    ensures { λ r. ⌜ (r ≡ answered (answerOf (now (words .entry)))) × (now (s .exit) ≡ sessionOf (now (words .entry))) ⌝ }
 {
     let a = session::admit::admit(words);
     *s = a.session;

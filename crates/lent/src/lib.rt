@@ -1,7 +1,8 @@
 // The calls on a session record that the host lends (docs/SPECIFICATION.md §5.8). Each hands the record to the call by
 // value and writes back the session that it leaves, so that a refused call writes back the same value.
 ghost use mathlib.Core.Path.{_≡_};
-ghost use Rattle.table.specs.Assess.{Assessed, shownOf};
+ghost use Rattle.table.specs.Verdict.{answerOf};
+ghost use Rattle.table.specs.Assess.{shownOf};
 ghost use Rattle.session.specs.Admit.{sessionOf};
 ghost use Rattle.session.specs.Calls.{arriveOf, chooseOf, advanceOf, finishOf};
 ghost use Rattle.session.specs.Batch.{afterAll, answeredAll};
@@ -77,7 +78,7 @@ pub fn finish(s: &mut Session) -> Reply
 
 // What the record held before does not matter.
 pub fn admit(s: &mut Session, words: &[u32]) -> Assessment
-    ensures { λ r. ⌜ Assessed (now (words .entry)) r × (now (s .exit) ≡ sessionOf (now (words .entry)) (shownOf r .first)) ⌝ }
+    ensures { λ r. ⌜ (shownOf r ≡ answerOf (now (words .entry))) × (now (s .exit) ≡ sessionOf (now (words .entry))) ⌝ }
 {
     let a = session::admit::admit(words);
     *s = a.session;

@@ -12,7 +12,7 @@ use Rattle.bounded.specs.Fold.{foldTo, put-start, put-next}
 use Rattle.table.specs.declared.Numbers.{Numbers}
 use Rattle.table.specs.declared.Assessment.{Assessment}
 use Rattle.table.specs.Verdict.{Answer, answerOf}
-use Rattle.table.specs.Assess.{shownOf, Shows, shows-of, Assessed}
+use Rattle.table.specs.Assess.{shownOf, Shows, shows-answer}
 use Rattle.session.specs.declared.Session.{Session}
 use Rattle.session.specs.declared.admit.Admission.{Admission}
 use Rattle.session.specs.Reading.{noJob}
@@ -37,14 +37,14 @@ freshOf l kind = record {
 abbrev pub noSession : Session
 noSession = record { clock = 0; kind = 0; count = 0; words = replicate 48 0; jobs = replicate 16 noJob; chosen = 0; span = 0 }
 
--- the fresh session of an admitted table, whose kind is the answer's first value; t is what a refusal 3 names
-unfoldable pub sessionOf : List ℕ → ℕ → Session
-sessionOf l t = cond (eqb (answerOf l t .number) 0) (freshOf l (answerOf l t .first)) noSession
+-- the fresh session of an admitted table, whose kind is the answer's first value
+unfoldable pub sessionOf : List ℕ → Session
+sessionOf l = cond (eqb (answerOf l .number) 0) (freshOf l (answerOf l .first)) noSession
 
 -- the contract of `admit`: the answer on the slice, and the session that it gives
 pub record Admitted (l : List ℕ) (a : Admission) : Type 0 where
-  pub answer : Assessed l (a .assessment)
-  pub session : a .session ≡ sessionOf l (shownOf (a .assessment) .first)
+  pub answer : shownOf (a .assessment) ≡ answerOf l
+  pub session : a .session ≡ sessionOf l
 
 -- ---- the code
 
@@ -66,18 +66,15 @@ pub fresh-is : (l w : List ℕ) (kind n : ℕ) → w ≡ wordsTo l (min (length 
 unfolding freshOf
 fresh-is l w kind n e f = rw (e, f)
 
-module _ (l : List ℕ) (a : Assessment) (n : Numbers) (h : Assessed l a) (g : Shows (a .verdict) n) where
-  numbers-are : record { number = n .number; first = n .first; second = n .second; budgets = a .budgets } ≡ answerOf l (shownOf a .first)
-  numbers-are = sym (shows-of a n g) ∙ h .answer
-
+module _ (l : List ℕ) (a : Assessment) (n : Numbers) (h : shownOf a ≡ answerOf l) (g : Shows (a .verdict) n) where
   pub admit-yes : (s : Session) → n .number ≡ 0 → s ≡ freshOf l (n .first) → Admitted l (record { assessment = a; session = s })
   unfolding sessionOf
   admit-yes s z e = record {
     answer = h;
     session =
         e
-        ∙ ap (freshOf l) (ap (λ (x : Answer). x .first) numbers-are)
-        ∙ sym (simp (eq-eqb (answerOf l (shownOf a .first) .number) 0 (sym (ap (λ (x : Answer). x .number) numbers-are) ∙ z)));
+        ∙ ap (freshOf l) (ap (λ (x : Answer). x .first) (shows-answer l a n h g))
+        ∙ sym (simp (eq-eqb (answerOf l .number) 0 (sym (ap (λ (x : Answer). x .number) (shows-answer l a n h g)) ∙ z)));
   }
 
   pub admit-not : (s : Session) → (n .number ≡ 0 → ⊥) → s ≡ noSession → Admitted l (record { assessment = a; session = s })
@@ -86,8 +83,7 @@ module _ (l : List ℕ) (a : Assessment) (n : Numbers) (h : Assessed l a) (g : S
     answer = h;
     session =
         e
-        ∙ sym
-        (simp (ne-eqb (answerOf l (shownOf a .first) .number) 0 (λ z. ne (ap (λ (x : Answer). x .number) numbers-are ∙ z))));
+        ∙ sym (simp (ne-eqb (answerOf l .number) 0 (λ z. ne (ap (λ (x : Answer). x .number) (shows-answer l a n h g) ∙ z))));
   }
 
 pub ruleset admit-cases = (admit-yes, admit-not)

@@ -10,7 +10,7 @@ use Rattle.session.specs.Reading.{idle, clockEnd, jobAt, rowsOf, tasks, 
 
 -- its rows, 16 at most, would be admitted as the kind it names
 unfoldable pub soundRows : Session → Bool
-soundRows s = leb (s .count) 16 && (eqb (answerOf (rowsOf s) 0 .number) 0 && eqb (answerOf (rowsOf s) 0 .first) (s .kind))
+soundRows s = leb (s .count) 16 && (eqb (answerOf (rowsOf s) .number) 0 && eqb (answerOf (rowsOf s) .first) (s .kind))
 
 -- a waiting job: remaining ≤ C, deadline = earliest next arrival − T + D, clock < deadline, budget ≤ D − C (0 when tight)
 unfoldable pub soundWaiting : Session → ℕ → Bool

@@ -238,11 +238,11 @@ module _ (s : Session) (few : s .count ≤ 16) (k : ℕ) (h : k ≡ kindOf (rows
   sound-refused z =
       simp (
         le-leb (s .count) 16 few,
-        ne-eqb (answerOf (rowsOf s) 0 .number) 0 (kind-none (rowsOf s) (sym h ∙ z)),
+        ne-eqb (answerOf (rowsOf s) .number) 0 (kind-none (rowsOf s) (sym h ∙ z)),
       )
 
   module _ (ne : k ≡ 0 → ⊥) where
-    answer-is : (answerOf (rowsOf s) 0 .number ≡ 0) × (answerOf (rowsOf s) 0 .first ≡ k)
+    answer-is : (answerOf (rowsOf s) .number ≡ 0) × (answerOf (rowsOf s) .first ≡ k)
     answer-is =
         let a = kind-some (rowsOf s) (λ z. ne (h ∙ z)) in
         (a .0, a .1 ∙ sym h)
@@ -252,8 +252,8 @@ module _ (s : Session) (few : s .count ≤ 16) (k : ℕ) (h : k ≡ kindOf (rows
     sound-kind other =
         simp (
           le-leb (s .count) 16 few,
-          eq-eqb (answerOf (rowsOf s) 0 .number) 0 (answer-is .0),
-          ne-eqb (answerOf (rowsOf s) 0 .first) (s .kind) (λ e. other (sym (answer-is .1) ∙ e)),
+          eq-eqb (answerOf (rowsOf s) .number) 0 (answer-is .0),
+          ne-eqb (answerOf (rowsOf s) .first) (s .kind) (λ e. other (sym (answer-is .1) ∙ e)),
         )
 
     module _ (same : k ≡ s .kind) where
@@ -262,8 +262,8 @@ module _ (s : Session) (few : s .count ≤ 16) (k : ℕ) (h : k ≡ kindOf (rows
       rows-sound =
           simp (
             le-leb (s .count) 16 few,
-            eq-eqb (answerOf (rowsOf s) 0 .number) 0 (answer-is .0),
-            eq-eqb (answerOf (rowsOf s) 0 .first) (s .kind) (answer-is .1 ∙ same),
+            eq-eqb (answerOf (rowsOf s) .number) 0 (answer-is .0),
+            eq-eqb (answerOf (rowsOf s) .first) (s .kind) (answer-is .1 ∙ same),
           )
 
       pub sound-clock : clockEnd < s .clock → false ≡ sound s
@@ -273,7 +273,7 @@ module _ (s : Session) (few : s .count ≤ 16) (k : ℕ) (h : k ≡ kindOf (rows
       module _ (c : s .clock ≤ clockEnd) where
         pub sound-checked : length (s .words) ≡ 48 → Checked s
         sound-checked p =
-            record { few = few; places = p; clock = c; rows = rows-count s few p; fit = answer-fit (rowsOf s) 0 (answer-is .0) }
+            record { few = few; places = p; clock = c; rows = rows-count s few p; fit = answer-fit (rowsOf s) (answer-is .0) }
 
         pub sound-jobs : (b : Bool) → b ≡ allTo (soundJob s) (s .count) → b ≡ false → false ≡ sound s
         unfolding sound

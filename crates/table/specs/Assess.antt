@@ -11,7 +11,7 @@ use lib.IntN.{ℤ, pos}
 use lib.ListN.{length, replicate}
 use borrow.Author.Tests.{eq-eqb, ne-eqb, lt-ltb, le-ltb, le-leb, lt-leb, ltb-true, ltb-false, eqb-true, eqb-false}
 use Rattle.bounded.specs.Tests.{both}
-use Rattle.bounded.specs.Least.{leastFrom, least-none, least-before}
+use Rattle.bounded.specs.Least.{leastFrom, least-found, least-none}
 use Rattle.edf.specs.Demand.{TaskSet, demand}
 use Rattle.table.specs.declared.Verdict.{Verdict}
 use Rattle.table.specs.declared.Verdict.the-variants.{Loose, Tight, Length, Row, Overload, Unsettled}
@@ -23,8 +23,9 @@ use Rattle.table.specs.declared.overload.Found.{Found}
 use Rattle.table.specs.Rows.{horizon, tasksOf, firstBroken, Fit, fit-of}
 use Rattle.table.specs.Budgets.{loose, valuesOf, budgetsOf}
 use Rattle.table.specs.Busy.{busyLength, Settled}
-use Rattle.table.specs.Overload.{Outcome, over, none, Searched}
-use Rattle.table.specs.Verdict.{Answer, badLength, comparedTo, firstOverload, overloaded, settled, opinionOf, answerOf, Exceeded}
+use Rattle.table.specs.Overload.{Searched, over, none}
+use Rattle.table.specs.First.{First}
+use Rattle.table.specs.Verdict.{Answer, badLength, comparedTo, firstOverload, overloaded, settled, opinionOf, answerOf}
 
 -- each verdict's number, and its two values (docs/SPECIFICATION.md §3.2)
 abbrev pub shown : Verdict → List ℤ → Answer
@@ -56,15 +57,10 @@ shows-of a n s = by (a .verdict) s
     by (Overload t d) s = rw (s .number, s .first, s .second)
     by Unsettled s = rw (s .number, s .first, s .second)
 
--- the answer a on the slice l is the one defined, with the t that it names, and a t that it names is exceeded
-pub record Assessed (l : List ℕ) (a : Assessment) : Type 0 where
-  pub answer : shownOf a ≡ answerOf l (shownOf a .first)
-  pub witness : shownOf a .number ≡ 3 → Exceeded (tasksOf l) (shownOf a .first)
-
--- the same, of rows that keep their rule
-pub record Judged (τ : TaskSet) (a : Assessment) : Type 0 where
-  pub answer : shownOf a ≡ opinionOf τ (shownOf a .first)
-  pub witness : shownOf a .number ≡ 3 → Exceeded τ (shownOf a .first)
+-- so where a is the answer on l, its numbers are that answer's
+pub shows-answer : (l : List ℕ) (a : Assessment) (n : Numbers) → shownOf a ≡ answerOf l → Shows (a .verdict) n
+    → record { number = n .number; first = n .first; second = n .second; budgets = a .budgets } ≡ answerOf l
+shows-answer l a n h s = sym (shows-of a n s) ∙ h
 
 abbrev pub refusedOf : Verdict → Assessment
 refusedOf v = record { verdict = v; budgets = replicate 16 (pos 0) }
@@ -109,18 +105,16 @@ overloaded-none τ h =
     lt-leb (leastFrom (λ t. ltb t (demand τ t)) 1 (comparedTo τ)) (comparedTo τ)
     (omega (arith, least-none (λ t. ltb t (demand τ t)) 1 (comparedTo τ) (λ x l k. le-ltb x (demand τ x) (h x l (omega arith)))))
 
-pub overloaded-some : (τ : TaskSet) (t : ℕ) → Exceeded τ t → overloaded τ ≡ true
+-- a tick of the range that is exceeded, and none before it is
+pub overloaded-first : (τ : TaskSet) (t : ℕ) → 1 ≤ t → t ≤ comparedTo τ → t < demand τ t → ((x : ℕ) → 1 ≤ x → x < t → demand τ x ≤ x)
+    → (t ≡ firstOverload τ) × (overloaded τ ≡ true)
 unfolding overloaded firstOverload
-overloaded-some τ t w =
-    dite (decLe (leastFrom (λ t. ltb t (demand τ t)) 1 (comparedTo τ)) (comparedTo τ))
-    (λ l. le-leb (leastFrom (λ t. ltb t (demand τ t)) 1 (comparedTo τ)) (comparedTo τ) l)
-    (λ l. absurd
-    (omega (
-      arith,
-      w .over,
-      ltb-false t (demand τ t)
-          (least-before (λ t. ltb t (demand τ t)) 1 (comparedTo τ) t (w .low) (omega (arith, w .high))),
-    )))
+overloaded-first τ t l h o before = (is, le-leb (leastFrom (λ t. ltb t (demand τ t)) 1 (comparedTo τ)) (comparedTo τ) (omega (arith, is)))
+  where
+    is : t ≡ leastFrom (λ t. ltb t (demand τ t)) 1 (comparedTo τ)
+    is =
+        least-found (λ t. ltb t (demand τ t)) 1 (comparedTo τ) t l (omega arith) (lt-ltb t (demand τ t) o)
+        (λ j p q. le-ltb j (demand τ j) (before j p q))
 
 -- ---- the code's ways out, for rows that keep their rule
 
@@ -133,83 +127,62 @@ module _ (τ : TaskSet) (b : Budgets) (e : b ≡ budgetsOf τ) where
   unfolding budgetsOf
   is-values = ap (λ z. z .values) e
 
-  pub judge-loose : (n : ℕ) → n ≡ τ .rows → b .loose ≡ true → Judged τ (record { verdict = Loose n; budgets = b .values })
+  pub judge-loose : (n : ℕ) → n ≡ τ .rows → b .loose ≡ true → shownOf (record { verdict = Loose n; budgets = b .values }) ≡ opinionOf τ
   unfolding opinionOf
-  judge-loose n h t =
-      record { answer = simp (sym is-loose ∙ t, h, is-values, opinionOf); witness = λ z. absurd (omega arith) }
+  judge-loose n h t = simp (sym is-loose ∙ t, h, is-values)
 
-  module _ (y : Busy) (s : Settled τ y) (end : ℕ) (m : end ≡ min (y .length) 1000000) (f : Found) (r : Searched τ end f) (no : b .loose ≡ false) where
+  module _ (y : Busy) (s : Settled τ y) (end : ℕ) (m : end ≡ min (y .length) 1000000) (f : Found) (r : Searched τ 0 end f) (no : b .loose ≡ false) where
     is-compared : end ≡ comparedTo τ
     unfolding comparedTo
     is-compared = m ∙ ap (λ (z : ℕ). min z 1000000) (s .is)
 
-    found-over : (f .at ≡ 0 → ⊥) → (f .demand ≡ demand τ (f .at)) × Exceeded τ (f .at)
-    found-over ne = by (r .outcome) ne
-      where
-        by : {t h : ℕ} → Outcome τ end t h → (t ≡ 0 → ⊥) → (h ≡ demand τ t) × Exceeded τ t
-        by (over l k d o) ne = (d, record { low = l; high = omega (arith, is-compared); over = omega arith })
-        by (none g) ne = absurd (ne refl)
-
     found-none : f .at ≡ 0 → overloaded τ ≡ false
-    found-none z = overloaded-none τ (by (r .outcome) z)
+    found-none z = by r
       where
-        by : {t h : ℕ} → Outcome τ end t h → t ≡ 0 → (x : ℕ) → 1 ≤ x → x ≤ comparedTo τ → demand τ x ≤ x
-        by (over l k d o) z x p q = absurd (omega arith)
-        by (none g) z x p q = g x p (omega (arith, is-compared))
+        by : Searched τ 0 end f → overloaded τ ≡ false
+        by (over x) = absurd (omega (arith, x .low))
+        by (none e c g) = overloaded-none τ (λ x p q. g x p (omega (arith, is-compared)))
 
-    pub judge-overload : (a : Assessment) → (f .at ≡ 0 → ⊥) → a ≡ refusedOf (Overload (f .at) (f .demand)) → Judged τ a
+    found-over : (f .at ≡ 0 → ⊥) → f .at ≤ comparedTo τ
+    found-over ne = by r
+      where
+        by : Searched τ 0 end f → f .at ≤ comparedTo τ
+        by (over x) = omega (arith, x .high, is-compared)
+        by (none e c g) = absurd (ne e)
+
+    pub judge-overload : (a : Assessment) (g : Found) → (f .at ≡ 0 → ⊥) → First τ f g → a ≡ refusedOf (Overload (g .at) (g .demand)) → shownOf a ≡ opinionOf τ
     unfolding opinionOf
-    judge-overload a ne g =
-        let w = found-over ne in
-        rw g
-        record {
-          answer = simp (sym is-loose ∙ no, overloaded-some τ (f .at) (w .1), w .0, opinionOf);
-          witness = λ z. w .1;
-        }
+    judge-overload a g ne w e =
+        let h = overloaded-first τ (g .at) (w .low) (omega (arith, w .high, found-over ne)) (omega (arith, w .is, w .over)) (w .before) in
+        simp (e, sym is-loose ∙ no, h .1, w .is, h .0)
 
-    pub judge-unsettled : (a : Assessment) → f .at ≡ 0 → 1000000 < y .length → a ≡ refusedOf Unsettled → Judged τ a
+    pub judge-unsettled : (a : Assessment) → f .at ≡ 0 → 1000000 < y .length → a ≡ refusedOf Unsettled → shownOf a ≡ opinionOf τ
     unfolding opinionOf settled
-    judge-unsettled a z h g =
-        rw g
-        record {
-          answer = simp (sym is-loose ∙ no, found-none z, lt-leb (busyLength τ) horizon (omega (arith, s .is)), opinionOf);
-          witness = λ z. absurd (omega arith);
-        }
+    judge-unsettled a z h g = simp (g, sym is-loose ∙ no, found-none z, lt-leb (busyLength τ) horizon (omega (arith, s .is)))
 
-    pub judge-tight : (n : ℕ) → n ≡ τ .rows → f .at ≡ 0 → y .length ≤ 1000000 → Judged τ (record { verdict = Tight n; budgets = b .values })
+    pub judge-tight : (n : ℕ) → n ≡ τ .rows → f .at ≡ 0 → y .length ≤ 1000000 → shownOf (record { verdict = Tight n; budgets = b .values }) ≡ opinionOf τ
     unfolding opinionOf settled
-    judge-tight n k z h = record {
-      answer = simp (sym is-loose ∙ no, found-none z, le-leb (busyLength τ) horizon (omega (arith, s .is)), k, is-values, opinionOf);
-      witness = λ z. absurd (omega arith);
-    }
+    judge-tight n k z h = simp (sym is-loose ∙ no, found-none z, le-leb (busyLength τ) horizon (omega (arith, s .is)), k, is-values)
 
 pub ruleset judge-cases = (judge-loose, judge-overload, judge-unsettled, judge-tight)
 
 -- ---- and for any slice
 
 module _ (l : List ℕ) (b : Bool) (e : b ≡ badLength (length l)) where
-  pub assess-length : (a : Assessment) → b ≡ true → a ≡ refusedOf (Length (length l)) → Assessed l a
+  pub assess-length : (a : Assessment) → b ≡ true → a ≡ refusedOf (Length (length l)) → shownOf a ≡ answerOf l
   unfolding answerOf
-  assess-length a t g = rw g record { answer = simp (sym e ∙ t, answerOf); witness = λ z. absurd (omega arith) }
+  assess-length a t g = simp (g, sym e ∙ t)
 
   module _ (i n : ℕ) (f : i ≡ firstBroken (tasksOf l)) (k : n ≡ tasksOf l .rows) (no : b ≡ false) where
-    pub assess-row : (a : Assessment) → i < n → a ≡ refusedOf (Row i) → Assessed l a
+    pub assess-row : (a : Assessment) → i < n → a ≡ refusedOf (Row i) → shownOf a ≡ answerOf l
     unfolding answerOf
-    assess-row a h g =
-        rw g
-        record {
-          answer = simp (sym e ∙ no, lt-ltb (firstBroken (tasksOf l)) (tasksOf l .rows) (omega arith), f, answerOf);
-          witness = λ z. absurd (omega arith);
-        }
+    assess-row a h g = simp (g, sym e ∙ no, lt-ltb (firstBroken (tasksOf l)) (tasksOf l .rows) (omega arith), f)
 
     pub assess-fit : n ≤ i → Fit (tasksOf l)
     assess-fit h = let g = length-fit l (sym e ∙ no) in fit-of (tasksOf l) (g .0) (g .1) (omega arith)
 
-    pub assess-judged : (a : Assessment) → n ≤ i → Judged (tasksOf l) a → Assessed l a
+    pub assess-judged : (a : Assessment) → n ≤ i → shownOf a ≡ opinionOf (tasksOf l) → shownOf a ≡ answerOf l
     unfolding answerOf
-    assess-judged a h j = record {
-      answer = simp (sym e ∙ no, le-ltb (firstBroken (tasksOf l)) (tasksOf l .rows) (omega arith), answerOf) (j .answer);
-      witness = j .witness;
-    }
+    assess-judged a h j = simp (sym e ∙ no, le-ltb (firstBroken (tasksOf l)) (tasksOf l .rows) (omega arith)) j
 
 pub ruleset assess-cases = (assess-length, assess-row, assess-fit, assess-judged)

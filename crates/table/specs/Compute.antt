@@ -18,7 +18,7 @@ use Rattle.table.specs.Rows.{horizon, tasksOf, firstBroken}
 use Rattle.table.specs.Budgets.{loose}
 use Rattle.table.specs.Busy.{busyLength}
 use Rattle.table.specs.Verdict.{refusal, admitted, badLength, comparedTo, firstOverload, overloaded, settled, opinionOf, answerOf}
-use Rattle.table.specs.Assess.{overloaded-none}
+use Rattle.table.specs.Assess.{overloaded-none, overloaded-first}
 
 -- up to n there is no busy length, and no tick is exceeded
 unfoldable pub quietTo : TaskSet → ℕ → Bool
@@ -61,26 +61,17 @@ module _ (τ : TaskSet) (n : ℕ) (quiet : quietTo τ n ≡ true) where
       (λ q. quiet-at x l (omega (arith, busy-is h e)) .1))
 
   -- where the next tick is exceeded, it is the first
-  pub first-over : n < horizon → suc n < demand τ (suc n) → firstOverload τ ≡ suc n
-  unfolding firstOverload comparedTo
+  pub first-over : n < horizon → suc n < demand τ (suc n) → (suc n ≡ firstOverload τ) × (overloaded τ ≡ true)
+  unfolding comparedTo
   first-over h over =
-      sym
-      (least-found (λ t. ltb t (demand τ t)) 1 (comparedTo τ) (suc n) (omega arith)
-      (omega (arith, quiet-busy (omega arith)))
-      (lt-ltb (suc n) (demand τ (suc n)) over)
-      (λ j l k. le-ltb j (demand τ j) (quiet-at j l (omega arith) .1)))
+      overloaded-first τ (suc n) (omega arith) (omega (arith, quiet-busy (omega arith))) over (λ x l k. quiet-at x l (omega arith) .1)
 
-  pub is-overloaded : n < horizon → suc n < demand τ (suc n) → overloaded τ ≡ true
-  unfolding overloaded comparedTo
-  is-overloaded h over =
-      le-leb (firstOverload τ) (comparedTo τ) (omega (arith, first-over h over, quiet-busy (omega arith)))
-
-module _ (l : List ℕ) (t : ℕ) (a : badLength (length l) ≡ false) (b : firstBroken (tasksOf l) ≡ tasksOf l .rows) (c : loose (tasksOf l) ≡ false) where
-  pub answer-over : overloaded (tasksOf l) ≡ true → answerOf l t ≡ refusal 3 t (demand (tasksOf l) t)
+module _ (l : List ℕ) (a : badLength (length l) ≡ false) (b : firstBroken (tasksOf l) ≡ tasksOf l .rows) (c : loose (tasksOf l) ≡ false) where
+  pub answer-over : (t : ℕ) → (t ≡ firstOverload (tasksOf l)) × (overloaded (tasksOf l) ≡ true) → answerOf l ≡ refusal 3 t (demand (tasksOf l) t)
   unfolding answerOf opinionOf
-  answer-over d = simp (a, le-ltb (firstBroken (tasksOf l)) (tasksOf l .rows) (omega arith), c, d)
+  answer-over t d = simp (a, le-ltb (firstBroken (tasksOf l)) (tasksOf l .rows) (omega arith), c, d .1, d .0)
 
-  pub answer-tight : overloaded (tasksOf l) ≡ false → busyLength (tasksOf l) ≤ horizon → answerOf l t ≡ admitted 2 (tasksOf l)
+  pub answer-tight : overloaded (tasksOf l) ≡ false → busyLength (tasksOf l) ≤ horizon → answerOf l ≡ admitted 2 (tasksOf l)
   unfolding answerOf opinionOf settled
   answer-tight d e =
       simp (a, le-ltb (firstBroken (tasksOf l)) (tasksOf l .rows) (omega arith), c, d, le-leb (busyLength (tasksOf l)) horizon e)

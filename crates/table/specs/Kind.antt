@@ -23,12 +23,12 @@ use Rattle.table.specs.Settle.{found, none, Settles, unsettled-by, settl
 -- ---- the code's ways out, for rows that keep their rule
 
 module _ (τ : TaskSet) (fit : Fit τ) (b : Budgets) (e : b ≡ budgetsOf τ) where
-  pub kind-loose : b .loose ≡ true → 1 ≡ kindIn (opinionOf τ 0)
+  pub kind-loose : b .loose ≡ true → 1 ≡ kindIn (opinionOf τ)
   unfolding opinionOf
   kind-loose t = simp (sym (is-loose τ b e) ∙ t)
 
   module _ (x : ℕ) (s : Settles τ x) (no : b .loose ≡ false) where
-    pub kind-unsettled : 1000000 < x → 0 ≡ kindIn (opinionOf τ 0)
+    pub kind-unsettled : 1000000 < x → 0 ≡ kindIn (opinionOf τ)
     unfolding opinionOf
     kind-unsettled h =
         both (overloaded τ) (λ o. simp (sym (is-loose τ b e) ∙ no, o)) (λ o. simp (sym (is-loose τ b e) ∙ no, o, unsettled s h))
@@ -37,24 +37,24 @@ module _ (τ : TaskSet) (fit : Fit τ) (b : Budgets) (e : b ≡ budgetsOf τ) wh
         unsettled (found l h k) p = absurd (omega arith)
         unsettled (none k) p = unsettled-by τ fit (none k)
 
-    module _ (h : x ≤ 1000000) (f : Found) (r : search.Searched τ x f) where
-      pub kind-over : (f .at ≡ 0 → ⊥) → 0 ≡ kindIn (opinionOf τ 0)
+    module _ (h : x ≤ 1000000) (f : Found) (r : search.Searched τ 0 x f) where
+      pub kind-over : (f .at ≡ 0 → ⊥) → 0 ≡ kindIn (opinionOf τ)
       unfolding opinionOf
-      kind-over ne = simp (sym (is-loose τ b e) ∙ no, over s h (r .outcome) ne)
+      kind-over ne = simp (sym (is-loose τ b e) ∙ no, by s h r)
         where
-          over : {x t d : ℕ} → Settles τ x → x ≤ 1000000 → search.Outcome τ x t d → (t ≡ 0 → ⊥) → overloaded τ ≡ true
-          over {x} {t} (found l m k) p (search.over a b c d) ne = over-by τ fit x l m k t (omega arith)
-          over (found l m k) p (search.none c) ne = absurd (ne refl)
-          over (none k) p o ne = absurd (omega arith)
+          by : {x : ℕ} → Settles τ x → x ≤ 1000000 → search.Searched τ 0 x f → overloaded τ ≡ true
+          by {x} (found l m k) p (search.over o) = over-by τ fit x l m k (f .at) (omega (arith, o .is, o .over))
+          by (found l m k) p (search.none z c g) = absurd (ne z)
+          by (none k) p o = absurd (omega arith)
 
-      pub kind-tight : f .at ≡ 0 → 2 ≡ kindIn (opinionOf τ 0)
+      pub kind-tight : f .at ≡ 0 → 2 ≡ kindIn (opinionOf τ)
       unfolding opinionOf
-      kind-tight z = let w = tight s h (r .outcome) z in simp (sym (is-loose τ b e) ∙ no, w .0, w .1)
+      kind-tight z = let w = by s h r in simp (sym (is-loose τ b e) ∙ no, w .0, w .1)
         where
-          tight : {x t d : ℕ} → Settles τ x → x ≤ 1000000 → search.Outcome τ x t d → t ≡ 0 → (overloaded τ ≡ false) × (settled τ ≡ true)
-          tight (found l m k) p (search.over a b c d) z = absurd (omega arith)
-          tight (found l m k) p (search.none c) z = (fits-by τ fit _ l m k c, settled-by τ fit _ l m k)
-          tight (none k) p o z = absurd (omega arith)
+          by : {x : ℕ} → Settles τ x → x ≤ 1000000 → search.Searched τ 0 x f → (overloaded τ ≡ false) × (settled τ ≡ true)
+          by (found l m k) p (search.over o) = absurd (omega (arith, o .low))
+          by (found l m k) p (search.none z c g) = (fits-by τ fit _ l m k g, settled-by τ fit _ l m k)
+          by (none k) p o = absurd (omega arith)
 
 pub ruleset kind-fit-cases = (kind-loose, kind-unsettled, kind-over, kind-tight)
 
@@ -70,7 +70,7 @@ module _ (l : List ℕ) (b : Bool) (e : b ≡ badLength (length l)) where
     unfolding kindOf answerOf
     kind-row h = simp (sym e ∙ no, lt-ltb (firstBroken (tasksOf l)) (tasksOf l .rows) (omega arith))
 
-    pub kind-judged : (k : ℕ) → n ≤ i → k ≡ kindIn (opinionOf (tasksOf l) 0) → k ≡ kindOf l
+    pub kind-judged : (k : ℕ) → n ≤ i → k ≡ kindIn (opinionOf (tasksOf l)) → k ≡ kindOf l
     unfolding kindOf answerOf
     kind-judged k h j = simp (sym e ∙ no, le-ltb (firstBroken (tasksOf l)) (tasksOf l .rows) (omega arith)) j
 
@@ -79,17 +79,17 @@ pub ruleset kind-cases = (kind-length, kind-row, assess-fit, kind-judged)
 -- ---- what a kind says of the answer
 
 module _ (l : List ℕ) where
-  first-some : answerOf l 0 .number ≡ 0 → answerOf l 0 .first ≡ 0 → ⊥
+  first-some : answerOf l .number ≡ 0 → answerOf l .first ≡ 0 → ⊥
   first-some z e =
-      ⊎-elim (λ a. omega (arith, ap (λ (x : Answer). x .first) (a .1 0))) (λ a. omega (arith, ap (λ (x : Answer). x .first) (a 0))) (answer-as l 0 z)
+      ⊎-elim (λ a. omega (arith, ap (λ (x : Answer). x .first) (a .1))) (λ a. omega (arith, ap (λ (x : Answer). x .first) (a .2))) (answer-as l z .1)
 
-  pub kind-none : kindOf l ≡ 0 → answerOf l 0 .number ≡ 0 → ⊥
+  pub kind-none : kindOf l ≡ 0 → answerOf l .number ≡ 0 → ⊥
   unfolding kindOf
-  kind-none e z = first-some z (simp (eq-eqb (answerOf l 0 .number) 0 z) at e)
+  kind-none e z = first-some z (simp (eq-eqb (answerOf l .number) 0 z) at e)
 
-  pub kind-some : (kindOf l ≡ 0 → ⊥) → (answerOf l 0 .number ≡ 0) × (answerOf l 0 .first ≡ kindOf l)
+  pub kind-some : (kindOf l ≡ 0 → ⊥) → (answerOf l .number ≡ 0) × (answerOf l .first ≡ kindOf l)
   unfolding kindOf
   kind-some ne =
-      both (eqb (answerOf l 0 .number) 0)
+      both (eqb (answerOf l .number) 0)
       (λ t. (eqb-true _ _ t, simp t))
       (λ t. absurd (ne (simp t)))

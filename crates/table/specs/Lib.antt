@@ -9,8 +9,10 @@ pub mod Leap
 pub mod Busy
 pub mod Drop
 pub mod Overload
+pub mod First
 pub mod Verdict
 pub mod Assess
+pub mod Statement
 pub mod Theorems
 pub mod Settle
 pub mod Kind

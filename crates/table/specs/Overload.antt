@@ -1,6 +1,6 @@
 -- The search for a tick whose demand exceeds it (docs/SPECIFICATION.md §3.1). Assumes nothing.
-use Prim.Native.Nat.{ℕ, _+_, _≤_, _<_}
-use mathlib.Core.Path.{_≡_}
+use Prim.Native.Nat.{ℕ, _+_, _-_, _≤_, _<_, min}
+use mathlib.Core.Path.{_≡_, refl}
 use mathlib.Core.Logic.{dite}
 use native.Mathlib.Omega.{arith}
 use native.Mathlib.Decide.{decLe, decLt}
@@ -10,30 +10,36 @@ use Rattle.table.specs.Rows.{Fit, fit-lawful}
 use Rattle.bounded.specs.Within.{Within}
 use Rattle.table.specs.Drop.{Lower}
 
--- no tick after t, up to end, is exceeded; n sums were made so far
-pub record Clear (τ : TaskSet) (end t n : ℕ) : Type 0 where
+-- f names a tick of the range that is exceeded, with its demand, and no tick from there to the end was summed up twice
+pub record Exceeds (τ : TaskSet) (floor end : ℕ) (f : Found) : Type 0 where
+  pub low : floor < f .at
+  pub high : f .at ≤ end
+  pub is : f .demand ≡ demand τ (f .at)
+  pub over : f .at < f .demand
+  pub counted : f .sums + f .at ≤ end + 1
+
+-- f names such a tick; or 0, and then none is exceeded
+pub data Searched (τ : TaskSet) (floor end : ℕ) (f : Found) : Type 0 where
+  over : Exceeds τ floor end f → Searched τ floor end f
+  none : f .at ≡ 0 → f .sums ≤ end - floor → ((x : ℕ) → floor < x → x ≤ end → demand τ x ≤ x) → Searched τ floor end f
+
+-- no tick after t, up to end, is exceeded; n sums were made so far, each while t stood above the floor
+pub record Clear (τ : TaskSet) (floor end t n : ℕ) : Type 0 where
   pub low : t ≤ end
   pub counted : n + t ≤ end
+  pub above : n ≤ end - floor
   pub clear : (x : ℕ) → t < x → x ≤ end → demand τ x ≤ x
 
--- f names a tick of the range that is exceeded, with its demand; or 0, and then none is
-pub data Outcome (τ : TaskSet) (end : ℕ) : ℕ → ℕ → Type 0 where
-  over : {t h : ℕ} → 1 ≤ t → t ≤ end → h ≡ demand τ t → t < h → Outcome τ end t h
-  none : ((x : ℕ) → 1 ≤ x → x ≤ end → demand τ x ≤ x) → Outcome τ end 0 0
+pub clear-start : (τ : TaskSet) (floor end : ℕ) → Clear τ floor end end 0
+clear-start τ floor end = record { low = omega arith; counted = omega arith; above = omega arith; clear = λ x l h. absurd (omega arith) }
 
-pub record Searched (τ : TaskSet) (end : ℕ) (f : Found) : Type 0 where
-  pub outcome : Outcome τ end (f .at) (f .demand)
-  pub counted : f .sums ≤ end
-
-pub clear-start : (τ : TaskSet) (end : ℕ) → Clear τ end end 0
-clear-start τ end = record { low = omega arith; counted = omega arith; clear = λ x l h. absurd (omega arith) }
-
-module _ (τ : TaskSet) (fit : Fit τ) (end t n h : ℕ) (c : Clear τ end t n) (w : Within 16000000000000 (demand τ t) h) where
+module _ (τ : TaskSet) (fit : Fit τ) (floor end t n h : ℕ) (c : Clear τ floor end t n) (w : Within 16000000000000 (demand τ t) h) where
   -- no tick from the demand of t up to t is exceeded, and none between there and the next tick to look at
-  pub clear-next : (u : ℕ) → 0 < t → h ≤ t → Lower τ t h u → Clear τ end u (n + 1)
+  pub clear-next : (u : ℕ) → floor < t → h ≤ t → Lower τ t h u → Clear τ floor end u (n + 1)
   clear-next u l k g = record {
     low = omega (arith, c .low, g .less);
     counted = omega (arith, c .counted, g .less);
+    above = omega (arith, c .counted);
     clear = λ x p q. dite (decLe x t)
         (λ m. dite (decLt x h)
         (λ o. g .clear x p o)
@@ -41,13 +47,19 @@ module _ (τ : TaskSet) (fit : Fit τ) (end t n h : ℕ) (c : Clear τ end t n) 
         (λ m. c .clear x (omega arith) q);
   }
 
-  pub clear-falls : (u : ℕ) → 0 < t → h ≤ t → Lower τ t h u → u < t
+  pub clear-falls : (u : ℕ) → floor < t → h ≤ t → Lower τ t h u → u < t
   clear-falls u l k g = omega (arith, g .less)
 
-  pub clear-over : 0 < t → t < h → Searched τ end (record { at = t; demand = h; sums = n + 1 })
-  clear-over l k = record { outcome = over l (c .low) (w .is) k; counted = omega (arith, c .counted) }
+  pub clear-over : floor < t → t < h → Searched τ floor end (record { at = t; demand = h; sums = n + 1 })
+  clear-over l k = over record { low = l; high = c .low; is = w .is; over = k; counted = omega (arith, c .counted) }
 
-pub clear-end : (τ : TaskSet) (end t n : ℕ) → Clear τ end t n → t ≤ 0 → Searched τ end (record { at = 0; demand = 0; sums = n })
-clear-end τ end t n c z = record { outcome = none (λ x l h. c .clear x (omega arith) h); counted = omega (arith, c .counted) }
+pub clear-end : (τ : TaskSet) (floor end t n : ℕ) → Clear τ floor end t n → t ≤ floor → Searched τ floor end (record { at = 0; demand = 0; sums = n })
+clear-end τ floor end t n c z = none refl (c .above) (λ x l h. c .clear x (omega arith) h)
+
+-- what was found up to the end of the compared range
+pub found-exceeds : (τ : TaskSet) (end y : ℕ) (f : Found) → Searched τ 0 end f → end ≡ min y 1000000 → (f .at ≡ 0 → ⊥) → Exceeds τ 0 1000000 f
+found-exceeds τ end y f (over e) m ne =
+    record { low = e .low; high = omega (arith, e .high); is = e .is; over = e .over; counted = omega (arith, e .counted) }
+found-exceeds τ end y f (none z c g) m ne = absurd (ne z)
 
 pub ruleset overload-laws = (clear-start, clear-next, clear-falls, clear-over, clear-end)

@@ -1,5 +1,5 @@
--- What an answer on a table means, for every slice of numbers (docs/SPECIFICATION.md §3, §4). Assumes nothing.
-use Prim.Native.Nat.{ℕ, suc, _≤_, _<_}
+-- What an answer on a table means: the proofs of `Statement`, and the laws of answers. Assumes nothing.
+use Prim.Native.Nat.{ℕ, zero, suc, _≤_, _<_}
 use mathlib.Core.Path.{_≡_, refl, sym, ap, _∙_}
 use mathlib.Core.Bool.{true, false, not}
 use mathlib.Core.List.{List}
@@ -13,71 +13,93 @@ use Rattle.bounded.specs.All.{all-at}
 use Rattle.bounded.specs.Least.{least-at, least-before}
 use Rattle.bounded.specs.Fixed.{fixed-low, fixed-at, fixed-before}
 use Rattle.bounded.specs.Signed.{negative, difference-negative}
-use Rattle.edf.specs.Demand.{TaskSet, Feasible, demand, request, interference, busy-suffices, loose-suffices}
-use Rattle.edf.specs.Arrivals.{Unservable}
+use Rattle.edf.specs.Demand.{TaskSet, Feasible, demand, request, interference, demand-start, demand-due, busy-suffices, loose-suffices}
 use Rattle.edf.specs.Overload.{overload}
 use Rattle.table.specs.Rows.{horizon, tasksOf, firstBroken, Fit, fit-of, fit-lawful}
 use Rattle.table.specs.Budgets.{budgetOf, loose, looseTo, valuesOf}
 use Rattle.table.specs.Busy.{busyLength}
-use Rattle.table.specs.Verdict.{Answer, admitted, badLength, comparedTo, firstOverload, overloaded, settled, opinionOf, answerOf}
-use Rattle.table.specs.Assess.{shownOf, Shows, shows-of, Assessed, length-fit}
+use Rattle.table.specs.Statement.{AdmittedFits, OverloadDeserved, UnsettledMeans, FittingRefused, FirstOverload, OverloadDue}
+use Rattle.table.specs.Verdict.{Answer, refusal, admitted, badLength, comparedTo, firstOverload, overloaded, settled, opinionOf, answerOf}
+use Rattle.table.specs.Assess.{shownOf, Shows, shows-answer, length-fit}
 use Rattle.table.specs.declared.Numbers.{Numbers}
 use Rattle.table.specs.declared.Assessment.{Assessment}
 
--- ---- the statements
-
--- no tick is asked for more than there is up to it, at any t whatever
-abbrev pub AdmittedFits : Type 0
-AdmittedFits = (l : List ℕ) (t : ℕ) → answerOf l t .number ≡ 0 → Feasible (tasksOf l)
-
--- a table refused as overloaded has allowed arrivals of which every order of work leaves some job not served in time
-abbrev pub OverloadDeserved : Type 0
-OverloadDeserved = (l : List ℕ) (t : ℕ) → answerOf l t .number ≡ 3 → Unservable (tasksOf l)
-
--- a table refused with 4 has no overload up to 1,000,000, and no busy length up to there
-abbrev pub UnsettledMeans : Type 0
-UnsettledMeans =
-    (l : List ℕ) (t : ℕ) → answerOf l t .number ≡ 4
-    → ((x : ℕ) → 1 ≤ x → x ≤ horizon → demand (tasksOf l) x ≤ x) × ((r : ℕ) → 1 ≤ r → r ≤ horizon → request (tasksOf l) r ≡ r → ⊥)
-
--- a table of 1 to 16 rows that keep their rule, whose demand exceeds no t, is refused only with 4, and only where it has no
--- busy length up to 1,000,000
-abbrev pub FittingRefused : Type 0
-FittingRefused =
-    (l : List ℕ) (t : ℕ) → badLength (length l) ≡ false → firstBroken (tasksOf l) ≡ tasksOf l .rows → Feasible (tasksOf l)
-    → (answerOf l t .number ≡ 0 → ⊥)
-    → (answerOf l t .number ≡ 4) × ((r : ℕ) → 1 ≤ r → r ≤ horizon → request (tasksOf l) r ≡ r → ⊥)
-
 -- ---- the cases of the definitions
 
--- what is known of rows that keep their rule, by the number of their answer
-pub data Opinion (τ : TaskSet) : ℕ → Type 0 where
-  isLoose : loose τ ≡ true → Opinion τ 0
-  isOver : overloaded τ ≡ true → Opinion τ 3
-  isTight : overloaded τ ≡ false → settled τ ≡ true → Opinion τ 0
-  isUnsettled : overloaded τ ≡ false → settled τ ≡ false → Opinion τ 4
+-- what is known of rows that keep their rule, by their answer
+data Opinion (τ : TaskSet) : Answer → Type 0 where
+  isLoose : loose τ ≡ true → Opinion τ (admitted 1 τ)
+  isOver : overloaded τ ≡ true → Opinion τ (refusal 3 (firstOverload τ) (demand τ (firstOverload τ)))
+  isTight : overloaded τ ≡ false → settled τ ≡ true → Opinion τ (admitted 2 τ)
+  isUnsettled : overloaded τ ≡ false → settled τ ≡ false → Opinion τ (refusal 4 horizon 0)
 
-pub opinion-case : (τ : TaskSet) (t : ℕ) → Opinion τ (opinionOf τ t .number)
+opinion-case : (τ : TaskSet) → Opinion τ (opinionOf τ)
 unfolding opinionOf
-opinion-case τ t =
+opinion-case τ =
     both (loose τ) (λ e. simp e (isLoose e))
     (λ e. both (overloaded τ) (λ f. simp (e, f) (isOver f))
     (λ f. both (settled τ) (λ g. simp (e, f, g) (isTight f g)) (λ g. simp (e, f, g) (isUnsettled f g))))
 
 -- what is known of any slice
-pub data Outcome (l : List ℕ) : ℕ → Type 0 where
-  isLength : Outcome l 1
-  isRow : Outcome l 2
-  isFit : {n : ℕ} → Fit (tasksOf l) → Opinion (tasksOf l) n → Outcome l n
+data Outcome (l : List ℕ) : Answer → Type 0 where
+  isLength : Outcome l (refusal 1 (length l) 0)
+  isRow : Outcome l (refusal 2 (firstBroken (tasksOf l)) 0)
+  isFit : {a : Answer} → Fit (tasksOf l) → Opinion (tasksOf l) a → Outcome l a
 
-pub outcome : (l : List ℕ) (t : ℕ) → Outcome l (answerOf l t .number)
+outcome : (l : List ℕ) → Outcome l (answerOf l)
 unfolding answerOf
-outcome l t =
+outcome l =
     both (badLength (length l)) (λ e. simp e isLength)
     (λ e. both (ltb (firstBroken (tasksOf l)) (tasksOf l .rows)) (λ f. simp (e, f) isRow)
     (λ f.
     let g = length-fit l e in
-    simp (e, f) (isFit (fit-of (tasksOf l) (g .0) (g .1) (ltb-false _ _ f)) (opinion-case (tasksOf l) t))))
+    simp (e, f) (isFit (fit-of (tasksOf l) (g .0) (g .1) (ltb-false _ _ f)) (opinion-case (tasksOf l)))))
+
+-- and so by the number of its answer: an answer that is neither 1 nor 2 is on rows that keep their rule,
+answer-lawful : (l : List ℕ) → (answerOf l .number ≡ 1 → ⊥) → (answerOf l .number ≡ 2 → ⊥) → Fit (tasksOf l) × Opinion (tasksOf l) (answerOf l)
+answer-lawful l = by (outcome l)
+  where
+    by : {a : Answer} → Outcome l a → (a .number ≡ 1 → ⊥) → (a .number ≡ 2 → ⊥) → Fit (tasksOf l) × Opinion (tasksOf l) a
+    by isLength p q = absurd (p refl)
+    by isRow p q = absurd (q refl)
+    by (isFit fit o) p q = (fit, o)
+
+-- a table that is admitted is loose or tight,
+abbrev Admits : TaskSet → Answer → Type 0
+Admits τ a = ((loose τ ≡ true) × (a ≡ admitted 1 τ)) ⊎ ((overloaded τ ≡ false) × (settled τ ≡ true) × (a ≡ admitted 2 τ))
+
+pub answer-as : (l : List ℕ) → answerOf l .number ≡ 0 → Fit (tasksOf l) × Admits (tasksOf l) (answerOf l)
+answer-as l z = let o = answer-lawful l (λ e. omega arith) (λ e. omega arith) in (o .0, by (o .1) z)
+  where
+    by : {a : Answer} → Opinion (tasksOf l) a → a .number ≡ 0 → Admits (tasksOf l) a
+    by (isLoose e) z = inl (e, refl)
+    by (isOver e) z = absurd (omega arith)
+    by (isTight e f) z = inr (e, f, refl)
+    by (isUnsettled e f) z = absurd (omega arith)
+
+-- one refused with 3 is overloaded,
+answer-over : (l : List ℕ) → answerOf l .number ≡ 3
+    → Fit (tasksOf l) × (overloaded (tasksOf l) ≡ true)
+    × (answerOf l ≡ refusal 3 (firstOverload (tasksOf l)) (demand (tasksOf l) (firstOverload (tasksOf l))))
+answer-over l z = let o = answer-lawful l (λ e. omega arith) (λ e. omega arith) in let p = by (o .1) z in (o .0, p .0, p .1)
+  where
+    by : {a : Answer} → Opinion (tasksOf l) a → a .number ≡ 3
+        → (overloaded (tasksOf l) ≡ true) × (a ≡ refusal 3 (firstOverload (tasksOf l)) (demand (tasksOf l) (firstOverload (tasksOf l))))
+    by (isLoose e) z = absurd (omega arith)
+    by (isOver e) z = (e, refl)
+    by (isTight e f) z = absurd (omega arith)
+    by (isUnsettled e f) z = absurd (omega arith)
+
+-- and one refused with 4 has no busy length
+answer-unsettled : (l : List ℕ) → answerOf l .number ≡ 4
+    → Fit (tasksOf l) × (overloaded (tasksOf l) ≡ false) × (settled (tasksOf l) ≡ false)
+answer-unsettled l z = let o = answer-lawful l (λ e. omega arith) (λ e. omega arith) in let p = by (o .1) z in (o .0, p .0, p .1)
+  where
+    by : {a : Answer} → Opinion (tasksOf l) a → a .number ≡ 4 → (overloaded (tasksOf l) ≡ false) × (settled (tasksOf l) ≡ false)
+    by (isLoose e) z = absurd (omega arith)
+    by (isOver e) z = absurd (omega arith)
+    by (isTight e f) z = absurd (omega arith)
+    by (isUnsettled e f) z = (e, f)
 
 -- ---- what they say of the demand
 
@@ -105,10 +127,16 @@ module _ (τ : TaskSet) (fit : Fit τ) where
       busy-suffices τ (fit-lawful τ fit) (busyLength τ) (fixed-low (request τ) horizon) (omega (arith, fixed-at (request τ) horizon h))
       (λ t l k. compared-fits e t l (omega arith))
 
-  pub overload-exceeded : overloaded τ ≡ true → firstOverload τ < demand τ (firstOverload τ)
+  -- where it is, the first overload is exceeded, and no tick before it
+  overload-exceeded : overloaded τ ≡ true → firstOverload τ < demand τ (firstOverload τ)
   unfolding overloaded firstOverload
   overload-exceeded e =
       ltb-true _ _ (least-at (λ t. ltb t (demand τ t)) 1 (comparedTo τ) (omega (arith, leb-true (firstOverload τ) (comparedTo τ) e)))
+
+  overload-before : (x : ℕ) → x < firstOverload τ → demand τ x ≤ x
+  unfolding firstOverload
+  overload-before zero h = demand-start τ (fit-lawful τ fit)
+  overload-before (suc x) h = ltb-false _ _ (least-before (λ t. ltb t (demand τ t)) 1 (comparedTo τ) (suc x) (omega arith) h)
 
   pub unsettled-fits : overloaded τ ≡ false → settled τ ≡ false → (t : ℕ) → 1 ≤ t → t ≤ horizon → demand τ t ≤ t
   unfolding settled comparedTo
@@ -121,108 +149,62 @@ module _ (τ : TaskSet) (fit : Fit τ) where
 -- ---- the theorems
 
 pub admitted-fits : AdmittedFits
-admitted-fits l t e = by (outcome l t) e
-  where
-    by : {n : ℕ} → Outcome l n → n ≡ 0 → Feasible (tasksOf l)
-    by isLength z = absurd (omega arith)
-    by isRow z = absurd (omega arith)
-    by (isFit fit (isLoose a)) z = loose-fits (tasksOf l) fit a
-    by (isFit fit (isOver a)) z = absurd (omega arith)
-    by (isFit fit (isTight a b)) z = tight-fits (tasksOf l) fit a b
-    by (isFit fit (isUnsettled a b)) z = absurd (omega arith)
+admitted-fits l e =
+    let a = answer-as l e in
+    ⊎-elim (λ b. loose-fits (tasksOf l) (a .0) (b .0)) (λ b. tight-fits (tasksOf l) (a .0) (b .0) (b .1)) (a .1)
 
 pub overload-deserved : OverloadDeserved
-overload-deserved l t e = by (outcome l t) e
-  where
-    by : {n : ℕ} → Outcome l n → n ≡ 3 → Unservable (tasksOf l)
-    by isLength z = absurd (omega arith)
-    by isRow z = absurd (omega arith)
-    by (isFit fit (isLoose a)) z = absurd (omega arith)
-    by (isFit fit (isOver a)) z =
-        overload (tasksOf l) (fit-lawful (tasksOf l) fit) (firstOverload (tasksOf l)) (overload-exceeded (tasksOf l) fit a)
-    by (isFit fit (isTight a b)) z = absurd (omega arith)
-    by (isFit fit (isUnsettled a b)) z = absurd (omega arith)
+overload-deserved l e =
+    let a = answer-over l e in
+    overload (tasksOf l) (fit-lawful (tasksOf l) (a .0)) (firstOverload (tasksOf l)) (overload-exceeded (tasksOf l) (a .0) (a .1))
+
+pub first-overload : FirstOverload
+first-overload l e =
+    let a = answer-over l e in
+    rw (a .2) (overload-exceeded (tasksOf l) (a .0) (a .1), refl, overload-before (tasksOf l) (a .0))
+
+pub overload-due : OverloadDue
+overload-due l e =
+    let a = answer-over l e in
+    let f = first-overload l e in
+    demand-due (tasksOf l) (fit-lawful (tasksOf l) (a .0)) (answerOf l .first) (f .0) (f .2)
 
 pub unsettled-means : UnsettledMeans
-unsettled-means l t e = by (outcome l t) e
-  where
-    by : {n : ℕ} → Outcome l n → n ≡ 4
-        → ((x : ℕ) → 1 ≤ x → x ≤ horizon → demand (tasksOf l) x ≤ x) × ((r : ℕ) → 1 ≤ r → r ≤ horizon → request (tasksOf l) r ≡ r → ⊥)
-    by isLength z = absurd (omega arith)
-    by isRow z = absurd (omega arith)
-    by (isFit fit (isLoose a)) z = absurd (omega arith)
-    by (isFit fit (isOver a)) z = absurd (omega arith)
-    by (isFit fit (isTight a b)) z = absurd (omega arith)
-    by (isFit fit (isUnsettled a b)) z =
-        (unsettled-fits (tasksOf l) fit a b, unsettled-long (tasksOf l) fit b)
+unsettled-means l e =
+    let a = answer-unsettled l e in
+    (unsettled-fits (tasksOf l) (a .0) (a .1) (a .2), unsettled-long (tasksOf l) (a .0) (a .2))
 
 pub fitting-refused : FittingRefused
 unfolding answerOf
-fitting-refused l t a b fits =
+fitting-refused l a b fits =
     let g = length-fit l a in
     simp (a, le-ltb (firstBroken (tasksOf l)) (tasksOf l .rows) (omega arith))
-    (by (fit-of (tasksOf l) (g .0) (g .1) (omega arith)) (opinion-case (tasksOf l) t))
+    (by (fit-of (tasksOf l) (g .0) (g .1) (omega arith)) (opinion-case (tasksOf l)))
   where
-    by : {n : ℕ} → Fit (tasksOf l) → Opinion (tasksOf l) n → (n ≡ 0 → ⊥)
-        → (n ≡ 4) × ((r : ℕ) → 1 ≤ r → r ≤ horizon → request (tasksOf l) r ≡ r → ⊥)
+    by : {r : Answer} → Fit (tasksOf l) → Opinion (tasksOf l) r → (r .number ≡ 0 → ⊥)
+        → (r .number ≡ 4) × ((r : ℕ) → 1 ≤ r → r ≤ horizon → request (tasksOf l) r ≡ r → ⊥)
     by fit (isLoose x) ne = absurd (ne refl)
     by fit (isOver x) ne = absurd (omega (arith, overload-exceeded (tasksOf l) fit x, fits (firstOverload (tasksOf l))))
     by fit (isTight x y) ne = absurd (ne refl)
     by fit (isUnsettled x y) ne = (refl, unsettled-long (tasksOf l) fit y)
 
--- an admitted table's rows keep their rule
-pub answer-fit : (l : List ℕ) (t : ℕ) → answerOf l t .number ≡ 0 → Fit (tasksOf l)
-answer-fit l t e = by (outcome l t) e
+-- ---- what callers use
+
+-- an admitted table's rows keep their rule, and its answer has their budgets and their number
+pub answer-fit : (l : List ℕ) → answerOf l .number ≡ 0 → Fit (tasksOf l)
+answer-fit l e = answer-as l e .0
+
+pub answer-admitted : (l : List ℕ) → answerOf l .number ≡ 0
+    → (answerOf l .budgets ≡ valuesOf (tasksOf l)) × (answerOf l .second ≡ tasksOf l .rows)
+answer-admitted l e = ⊎-elim (λ b. by 1 (b .1)) (λ b. by 2 (b .2)) (answer-as l e .1)
   where
-    by : {n : ℕ} → Outcome l n → n ≡ 0 → Fit (tasksOf l)
-    by isLength z = absurd (omega arith)
-    by isRow z = absurd (omega arith)
-    by (isFit fit o) z = fit
+    by : (k : ℕ) → answerOf l ≡ admitted k (tasksOf l)
+        → (answerOf l .budgets ≡ valuesOf (tasksOf l)) × (answerOf l .second ≡ tasksOf l .rows)
+    by k a = (ap (λ (x : Answer). x .budgets) a, ap (λ (x : Answer). x .second) a)
 
--- an answer that is neither 1 nor 2 is on rows that keep their rule
-pub shown-fit : (l : List ℕ) (a : Assessment) (n : Numbers) → Assessed l a → Shows (a .verdict) n → (n .number ≡ 1 → ⊥) → (n .number ≡ 2 → ⊥) → Fit (tasksOf l)
-shown-fit l a n h s no1 no2 = by (outcome l (shownOf a .first)) (λ e. no1 (number-is ∙ e)) (λ e. no2 (number-is ∙ e))
+-- so do those of every answer that is neither 1 nor 2
+pub shown-fit : (l : List ℕ) (a : Assessment) (n : Numbers) → shownOf a ≡ answerOf l → Shows (a .verdict) n → (n .number ≡ 1 → ⊥) → (n .number ≡ 2 → ⊥) → Fit (tasksOf l)
+shown-fit l a n h s no1 no2 = answer-lawful l (λ e. no1 (number-is ∙ e)) (λ e. no2 (number-is ∙ e)) .0
   where
-    number-is : n .number ≡ answerOf l (shownOf a .first) .number
-    number-is = ap (λ (z : Answer). z .number) (sym (shows-of a n s) ∙ h .answer)
-
-    by : {m : ℕ} → Outcome l m → (m ≡ 1 → ⊥) → (m ≡ 2 → ⊥) → Fit (tasksOf l)
-    by isLength p q = absurd (p refl)
-    by isRow p q = absurd (q refl)
-    by (isFit fit o) p q = fit
-
--- an answer's number does not hang on the t that a refusal 3 names, and an admitted table's answer not at all
-pub answer-number : (l : List ℕ) (t u : ℕ) → answerOf l t .number ≡ answerOf l u .number
-unfolding answerOf opinionOf
-answer-number l t u =
-    both (badLength (length l)) (λ e. simp e)
-    (λ e. both (ltb (firstBroken (tasksOf l)) (tasksOf l .rows)) (λ f. simp (e, f))
-    (λ f. both (loose (tasksOf l)) (λ g. simp (e, f, g)) (λ g. both (overloaded (tasksOf l)) (λ h. simp (e, f, g, h)) (λ h. simp (e, f, g, h)))))
-
--- what an admitted table's answer is, whichever t is named
-pub answer-as : (l : List ℕ) (t : ℕ) → answerOf l t .number ≡ 0
-    → ((loose (tasksOf l) ≡ true) × ((u : ℕ) → answerOf l u ≡ admitted 1 (tasksOf l))) ⊎ ((u : ℕ) → answerOf l u ≡ admitted 2 (tasksOf l))
-unfolding answerOf opinionOf
-answer-as l t z =
-    both (badLength (length l)) (λ e. no (simp e at z))
-    (λ e. both (ltb (firstBroken (tasksOf l)) (tasksOf l .rows)) (λ f. no (simp (e, f) at z))
-    (λ f. both (loose (tasksOf l)) (λ g. inl (g, λ u. simp (e, f, g)))
-    (λ g. both (overloaded (tasksOf l)) (λ h. no (simp (e, f, g, h) at z))
-    (λ h. both (settled (tasksOf l)) (λ k. inr (λ u. simp (e, f, g, h, k))) (λ k. no (simp (e, f, g, h, k) at z))))))
-  where
-    no : {n : ℕ} → suc n ≡ 0
-        → ((loose (tasksOf l) ≡ true) × ((u : ℕ) → answerOf l u ≡ admitted 1 (tasksOf l))) ⊎ ((u : ℕ) → answerOf l u ≡ admitted 2 (tasksOf l))
-    no e = absurd (omega arith)
-
-pub answer-admitted : (l : List ℕ) (t u : ℕ) → answerOf l t .number ≡ 0
-    → (answerOf l t ≡ answerOf l u) × (answerOf l t .budgets ≡ valuesOf (tasksOf l))
-answer-admitted l t u z = ⊎-elim (λ a. by 1 (a .1)) (λ a. by 2 a) (answer-as l t z)
-  where
-    by : (k : ℕ) → ((u : ℕ) → answerOf l u ≡ admitted k (tasksOf l))
-        → (answerOf l t ≡ answerOf l u) × (answerOf l t .budgets ≡ valuesOf (tasksOf l))
-    by k a = (a t ∙ sym (a u), ap (λ (x : Answer). x .budgets) (a t))
-
--- its second value is the number of rows
-pub answer-rows : (l : List ℕ) (t : ℕ) → answerOf l t .number ≡ 0 → answerOf l t .second ≡ tasksOf l .rows
-answer-rows l t z =
-    ⊎-elim (λ a. ap (λ (x : Answer). x .second) (a .1 t)) (λ a. ap (λ (x : Answer). x .second) (a t)) (answer-as l t z)
+    number-is : n .number ≡ answerOf l .number
+    number-is = ap (λ (z : Answer). z .number) (shows-answer l a n h s)

@@ -1,5 +1,5 @@
 -- The verdict on a table, by its number and values (docs/SPECIFICATION.md §3). Assumes nothing.
-use Prim.Native.Nat.{ℕ, _%_, _≤_, _<_, min}
+use Prim.Native.Nat.{ℕ, _%_, min}
 use mathlib.Core.Bool.{Bool, not, _||_, cond}
 use mathlib.Core.List.{List}
 use lib.Dec.{leb, ltb, eqb}
@@ -46,27 +46,21 @@ overloaded τ = leb (firstOverload τ) (comparedTo τ)
 unfoldable pub settled : TaskSet → Bool
 settled τ = leb (busyLength τ) horizon
 
--- the verdict on 1 to 16 rows that keep their rule; t is what a refusal 3 names
-unfoldable pub opinionOf : TaskSet → ℕ → Answer
-opinionOf τ t =
+-- the verdict on 1 to 16 rows that keep their rule
+unfoldable pub opinionOf : TaskSet → Answer
+opinionOf τ =
     cond (loose τ) (admitted 1 τ)
-    (cond (overloaded τ) (refusal 3 t (demand τ t)) (cond (settled τ) (admitted 2 τ) (refusal 4 horizon 0)))
+    (cond (overloaded τ) (refusal 3 (firstOverload τ) (demand τ (firstOverload τ))) (cond (settled τ) (admitted 2 τ) (refusal 4 horizon 0)))
 
--- the verdict on any slice of numbers, the lower number first; t is what a refusal 3 names
-unfoldable pub answerOf : List ℕ → ℕ → Answer
-answerOf l t =
+-- the verdict on any slice of numbers, the lower number first
+unfoldable pub answerOf : List ℕ → Answer
+answerOf l =
     cond (badLength (length l)) (refusal 1 (length l) 0)
-    (cond (ltb (firstBroken (tasksOf l)) (tasksOf l .rows)) (refusal 2 (firstBroken (tasksOf l)) 0) (opinionOf (tasksOf l) t))
+    (cond (ltb (firstBroken (tasksOf l)) (tasksOf l .rows)) (refusal 2 (firstBroken (tasksOf l)) 0) (opinionOf (tasksOf l)))
 
 -- the kind that an answer admits a table as, 1 loose and 2 tight; 0 where it is a refusal
 abbrev pub kindIn : Answer → ℕ
 kindIn a = cond (eqb (a .number) 0) (a .first) 0
 
 unfoldable pub kindOf : List ℕ → ℕ
-kindOf l = kindIn (answerOf l 0)
-
--- what is asked of the t that a refusal 3 names: it lies in the compared range, and its demand is above it
-pub record Exceeded (τ : TaskSet) (t : ℕ) : Type 0 where
-  pub low : 1 ≤ t
-  pub high : t ≤ comparedTo τ
-  pub over : t < demand τ t
+kindOf l = kindIn (answerOf l)

@@ -16,6 +16,7 @@ use super::inverse::Prepared;
 use super::inverse::prepare;
 use super::rows::count;
 use super::sieve::sieve;
+use bounded::less;
 
 // Rows with a deadline after some tick, counted by their shares of time, in parts of 2 to the 32nd and rounded up, and by
 // what they are ahead by, since their deadlines come before their periods' ends; and what is due of the others.
@@ -85,13 +86,6 @@ fn hold(words: &[u32], inverses: &[u64; 16], t: u64, b: u64) -> Holding
         i = i + 1;
     }
     h
-}
-
-// a − b, and 0 where b is more.
-fn less(a: u64, b: u64) -> u64
-    ensures { λ r. ⌜ r ≡ a - b ⌝ }
-{
-    if a < b { 0 } else { a - b }
 }
 
 // What t ticks bring of the shares v above 1.

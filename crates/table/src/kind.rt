@@ -14,7 +14,7 @@ use super::settle::settling;
 // The kind of rows that keep their rule: 1 loose, 2 tight, 0 refused.
 fn fit_kind(words: &[u32]) -> u64
     requires { ⌜ Fit (tasksOf (now words)) ⌝ }
-    ensures { λ r. ⌜ r ≡ kindIn (opinionOf (tasksOf (now (words .entry))) 0) ⌝ }
+    ensures { λ r. ⌜ r ≡ kindIn (opinionOf (tasksOf (now (words .entry)))) ⌝ }
 {
     let inverses = inverses_of(words);
     let b = all_budgets(words, &inverses);
@@ -25,7 +25,7 @@ fn fit_kind(words: &[u32]) -> u64
     if 1000000 < end {
         return 0;
     }
-    let found = search(words, &inverses, end);
+    let found = search(words, &inverses, 0, end);
     if found.at != 0 {
         return 0;
     }

@@ -2,13 +2,14 @@
 ghost use mathlib.Core.Path.{_≡_};
 ghost use Prim.Native.Nat.{min};
 ghost use Rattle.table.specs.Rows.{tasksOf, Fit};
-ghost use Rattle.table.specs.Verdict.{badLength};
-ghost use Rattle.table.specs.Assess.{Shows, Judged, Assessed, refusedOf};
+ghost use Rattle.table.specs.Verdict.{badLength, opinionOf, answerOf};
+ghost use Rattle.table.specs.Assess.{Shows, shownOf, refusedOf};
 
 pub mod budgets;
 pub mod busy;
 mod demand;
 mod drop;
+pub mod first;
 pub mod inverse;
 pub mod kind;
 mod leap;
@@ -26,7 +27,7 @@ pub enum Verdict {
     Length(usize),
     // The first row that breaks its rule.
     Row(usize),
-    // A tick of the compared range, and the demand there, which exceeds it.
+    // The first tick whose demand exceeds it, and that demand.
     Overload { at: u64, demand: u64 },
     // No busy length up to 1,000,000.
     Unsettled,
@@ -114,7 +115,7 @@ pub fn compared(busy: u64) -> u64
 // The verdict on rows that keep their rule.
 fn judge(words: &[u32]) -> Assessment
     requires { ⌜ Fit (tasksOf (now words)) ⌝ }
-    ensures { λ r. ⌜ Judged (tasksOf (now (words .entry))) r ⌝ }
+    ensures { λ r. ⌜ shownOf r ≡ opinionOf (tasksOf (now (words .entry))) ⌝ }
 {
     let rows = rows::count(words);
     let inverses = inverse::inverses_of(words);
@@ -127,11 +128,12 @@ fn judge(words: &[u32]) -> Assessment
         };
     }
     let busy = busy::busy_length(words, &inverses);
-    let found = overload::search(words, &inverses, compared(busy.length));
+    let found = overload::search(words, &inverses, 0, compared(busy.length));
     if found.at != 0 {
+        let first = first::first(words, &inverses, found);
         return refused(Verdict::Overload {
-            at: found.at,
-            demand: found.demand,
+            at: first.at,
+            demand: first.demand,
         });
     }
     if 1000000 < busy.length {
@@ -145,7 +147,7 @@ fn judge(words: &[u32]) -> Assessment
 
 // The verdict on any slice.
 pub fn assess(words: &[u32]) -> Assessment
-    ensures { λ r. ⌜ Assessed (now (words .entry)) r ⌝ }
+    ensures { λ r. ⌜ shownOf r ≡ answerOf (now (words .entry)) ⌝ }
 {
     let n = words.len();
     if ill_sized(n) {

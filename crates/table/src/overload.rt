@@ -1,5 +1,5 @@
-// A tick whose demand exceeds it (docs/SPECIFICATION.md §3.1), found by jumps and not by a scan (the QPA test), and where the
-// jumps are short by a sieve.
+// Whether the demand of some tick exceeds it (docs/SPECIFICATION.md §3.1), by jumps down from the end of a range and not by a
+// scan (the QPA test), and where the jumps are short by a sieve.
 ghost use Prim.Native.Nat.{_≤_};
 ghost use Rattle.table.specs.Rows.{tasksOf, Fit};
 ghost use Rattle.table.specs.Inverse.{Inverses};
@@ -17,16 +17,16 @@ pub struct Found {
     pub sums: u64,
 }
 
-// Looks at the ticks from 1 to end. Internal: `assess` tests the rows first.
-pub fn search(words: &[u32], inverses: &[u64; 16], end: u64) -> Found
+// Looks at the ticks above floor, up to end, and finds the last that is exceeded. Internal: `assess` tests the rows first.
+pub fn search(words: &[u32], inverses: &[u64; 16], floor: u64, end: u64) -> Found
     requires { ⌜ Fit (tasksOf (now words)) × Inverses (tasksOf (now words)) (now inverses) × (end ≤ 1000000) ⌝ }
-    ensures { λ r. ⌜ Searched (tasksOf (now (words .entry))) end r ⌝ }
+    ensures { λ r. ⌜ Searched (tasksOf (now (words .entry))) floor end r ⌝ }
 {
     let n = count(words);
     let mut t = end;
     let mut sums: u64 = 0;
     let mut lag: u64 = 0;
-    while 0 < t {
+    while floor < t {
         let h = demand_at(words, inverses, t);
         sums = sums + 1;
         if t < h {

@@ -13,6 +13,7 @@ use super::inverse::prepare;
 use super::request::ceiling;
 use super::rows::count;
 use super::rows::wide;
+use bounded::less;
 
 // By how many ticks the steps lag behind a sieve of the same cost, 0 to 256, after one step more: a sum over n rows costs about
 // as much as n ticks of the sieve. At 256 the sieve is the faster way. Internal: no table has more rows.
@@ -20,15 +21,8 @@ pub fn lag_after(n: usize, step: u64, lag: u64) -> u64
     requires { ⌜ (n ≤ 16) × (lag ≤ 256) ⌝ }
     ensures { λ r. ⌜ Lag step r ⌝ }
 {
-    let ticks = lag + (n as u64);
-    if ticks <= step {
-        return 0;
-    }
-    if ticks - step < 256 {
-        ticks - step
-    } else {
-        256
-    }
+    let behind = less(lag + (n as u64), step);
+    if behind < 256 { behind } else { 256 }
 }
 
 // The ticks up to t since the last deadline that the row k can have.

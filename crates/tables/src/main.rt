@@ -1,6 +1,6 @@
 // Answers on the unmarked tables of docs/SPECIFICATION.md §7 and on others, one a line: number, two values; V of each row
 // of an admitted table; and, for rows that keep their rule, how many sums over the rows the busy length and the search for
-// an overload take, where a scan of the ticks takes as many as the compared range has, which is printed last.
+// the first overload take, where a scan of the ticks takes as many as the compared range has, which is printed last.
 ghost use Rattle.table.specs.Rows.{tasksOf, Fit};
 use libc::STDOUT_FILENO;
 
@@ -33,10 +33,15 @@ fn put_sums(words: &[u32])
     let inverses = table::inverse::inverses_of(words);
     let busy = table::busy::busy_length(words, &inverses);
     let end = table::compared(busy.length);
-    let found = table::overload::search(words, &inverses, end);
+    let found = table::overload::search(words, &inverses, 0, end);
     io::write_all(STDOUT_FILENO, b"sums\t");
     put(busy.sums);
-    put(found.sums);
+    if found.at == 0 {
+        put(found.sums);
+    } else {
+        let first = table::first::first(words, &inverses, found);
+        put(first.sums);
+    }
     put(end);
 }
 
@@ -223,6 +228,58 @@ const SHORT_STEPS: [u32; 48] = [
     11,
 ];
 
+// 15 short rows that use up all of the time, each with another deadline, and a long row whose deadline is the first overload.
+const LATE_OVERLOAD: [u32; 48] = [
+    6,
+    90,
+    6,
+    6,
+    90,
+    12,
+    6,
+    90,
+    18,
+    6,
+    90,
+    24,
+    6,
+    90,
+    30,
+    6,
+    90,
+    36,
+    6,
+    90,
+    42,
+    6,
+    90,
+    48,
+    6,
+    90,
+    54,
+    6,
+    90,
+    60,
+    6,
+    90,
+    66,
+    6,
+    90,
+    72,
+    6,
+    90,
+    78,
+    6,
+    90,
+    84,
+    6,
+    90,
+    90,
+    1,
+    1000000,
+    999990,
+];
+
 // The list of §7.
 fn listed() {
     answer(&[1, 2, 2, 500000, 1000000, 1000000]);
@@ -266,9 +323,19 @@ fn short_steps() {
     answer(&short);
 }
 
+// Tables whose first overload is one of many, or lies at the end of a long stretch without one; and one without, as long.
+fn first_overloads() {
+    answer(&[1, 2, 2, 2, 3, 3]);
+    answer(&[1, 2, 2, 1, 3, 3, 1, 6, 6, 1, 1000000, 999990]);
+    answer(&[1, 2, 2, 1, 3, 3, 1, 6, 6, 1, 1000000, 1000000]);
+    let late = LATE_OVERLOAD;
+    answer(&late);
+}
+
 fn main() {
     listed();
     refused();
     hard();
     short_steps();
+    first_overloads();
 }

@@ -9,21 +9,21 @@ use native.Mathlib.Decide.{decLe}
 use lib.ListN.{length, take}
 use lib.Seq.{take-all, length-take-le}
 use borrow.Author.Tests.{eq-eqb, ne-eqb}
-use Rattle.decimal.specs.Buffer.{Wrote, overlay, overlay-length, wrote-more}
+use Rattle.decimal.specs.Buffer.{Wrote, overlay-length, wrote-more, wrote-within}
 use Rattle.lines.specs.declared.read.Line.{Line}
 use Rattle.lines.specs.Lines.{linesOf}
 use Rattle.table.specs.declared.Numbers.{Numbers}
 use Rattle.table.specs.Rows.{tasksOf}
-use Rattle.table.specs.Verdict.{Answer, answerOf, Exceeded}
+use Rattle.table.specs.Verdict.{Answer, answerOf}
 use Rattle.table.specs.Assess.{shownOf, Shows, shows-of}
-use Rattle.table.specs.Theorems.{answer-rows}
+use Rattle.table.specs.Theorems.{answer-admitted}
 use Rattle.session.specs.declared.admit.Admission.{Admission}
 use Rattle.session.specs.Admit.{Admitted}
 use Rattle.guarantee.specs.Good.{Good}
 use Rattle.guarantee.specs.KeepsFresh.{good-fresh}
 use Rattle.transcript.specs.declared.step.Play.{Play}
 use Rattle.transcript.specs.declared.rows.Rows.{Rows}
-use Rattle.transcript.specs.Transcript.{inputLimit, inputLines, rowLimit, rowsIn, admissionText, printedOf, roomFor, Printed, Transcribed, tooShort, printed}
+use Rattle.transcript.specs.Transcript.{inputLimit, rowLimit, rowsIn, admissionText, printedOf, outputOf, roomFor, Transcribed, tooShort, printed}
 use Rattle.transcript.specs.Table.{Stated}
 use Rattle.transcript.specs.Plays.{roomOf, Begun, owed}
 
@@ -34,18 +34,11 @@ module _ (text : List ℕ) (t : Rows) (st : Stated text t) (ws : List ℕ) (e : 
   abbrev l : List Line
   l = linesOf text
 
-  -- the t that the answer names
-  abbrev named : ℕ
-  named = shownOf (a .assessment) .first
-
   rows-are : rowsIn rowLimit l ≡ ws
   rows-are = st .rows ∙ sym e
 
-  answer-is : answerOf (rowsIn rowLimit l) named ≡ shownOf (a .assessment)
-  answer-is = ap (λ (x : List ℕ). answerOf x named) rows-are ∙ sym (ad .answer .answer)
-
-  witness : answerOf (rowsIn rowLimit l) named .number ≡ 3 → Exceeded (tasksOf (rowsIn rowLimit l)) named
-  witness z = rw rows-are (ad .answer .witness (sym (ap (λ (x : Answer). x .number) answer-is) ∙ z))
+  answer-is : answerOf (rowsIn rowLimit l) ≡ shownOf (a .assessment)
+  answer-is = ap answerOf rows-are ∙ sym (ad .answer)
 
   -- three numbers to a row
   rows-count : length ws ≡ 3 * t .count
@@ -55,8 +48,8 @@ module _ (text : List ℕ) (t : Rows) (st : Stated text t) (ws : List ℕ) (e : 
   pub second-is : shownOf (a .assessment) .number ≡ 0 → shownOf (a .assessment) .second ≡ t .count
   unfolding tasksOf
   second-is z =
-      ap (λ (x : Answer). x .second) (ad .answer .answer)
-      ∙ answer-rows ws named (sym (ap (λ (x : Answer). x .number) (ad .answer .answer)) ∙ z)
+      ap (λ (x : Answer). x .second) (ad .answer)
+      ∙ answer-admitted ws (sym (ap (λ (x : Answer). x .number) (ad .answer)) ∙ z) .1
       ∙ omega (arith, rows-count)
 
   module _ (n : Numbers) (sh : Shows (a .assessment .verdict) n) where
@@ -64,19 +57,14 @@ module _ (text : List ℕ) (t : Rows) (st : Stated text t) (ws : List ℕ) (e : 
     number-is = ap (λ (x : Answer). x .number) (shows-of (a .assessment) n sh)
 
     -- a refused table ends the output
-    text-refused : (n .number ≡ 0 → ⊥) → printedOf l named ≡ admissionText (shownOf (a .assessment))
+    text-refused : (n .number ≡ 0 → ⊥) → printedOf l ≡ admissionText (shownOf (a .assessment))
     unfolding printedOf
     text-refused ne = rw (answer-is, ne-eqb (shownOf (a .assessment) .number) 0 (λ z. ne (sym number-is ∙ z))) (append-nil _)
 
     pub print-refused : (before after : List ℕ) (r : ℕ) → (n .number ≡ 0 → ⊥) → Wrote 1478 (admissionText (shownOf (a .assessment))) before after 0 r
-        → Printed l before after (roomOf text) r
-    print-refused before after r ne w = record {
-      t = named;
-      witness = witness;
-      buffer = w .buffer ∙ ap (overlay before 0) (sym (text-refused ne));
-      length = w .place ∙ (omega (arith, ap length (text-refused ne)));
-      fits = omega (arith, w .place, w .short);
-    }
+        → Wrote (roomOf text) (printedOf l) before after 0 r
+    print-refused before after r ne w =
+        rw (text-refused ne) (wrote-within 1478 (roomOf text) (admissionText (shownOf (a .assessment))) before after 0 r (omega arith) w)
 
     module _ (z : n .number ≡ 0) (before middle : List ℕ) (end : ℕ) (w : Wrote 1478 (admissionText (shownOf (a .assessment))) before middle 0 end) where
       -- the calls start from the fresh session, with no words, at the line after the rows
@@ -86,7 +74,7 @@ module _ (text : List ℕ) (t : Rows) (st : Stated text t) (ws : List ℕ) (e : 
       good : Good ws (a .session)
       good =
           rw (ad .session)
-          (good-fresh ws named (sym (ap (λ (x : Answer). x .number) (ad .answer .answer)) ∙ number-is ∙ z))
+          (good-fresh ws (sym (ap (λ (x : Answer). x .number) (ad .answer)) ∙ number-is ∙ z))
 
       pub print-begun : length text ≤ inputLimit → roomOf text ≤ length middle → Begun text (t .at) (a .session) begin middle
       print-begun h k = record {
@@ -103,23 +91,17 @@ module _ (text : List ℕ) (t : Rows) (st : Stated text t) (ws : List ℕ) (e : 
       count-is : suc (length (rowsIn rowLimit l) / 3) ≡ t .count + 1
       count-is = omega (arith, ap length rows-are, rows-count)
 
-      text-calls : printedOf l named ≡ admissionText (shownOf (a .assessment)) ++ owed text (a .session) begin [] (t .at)
+      text-calls : printedOf l ≡ admissionText (shownOf (a .assessment)) ++ owed text (a .session) begin [] (t .at)
       unfolding printedOf
       text-calls =
           rw (answer-is, eq-eqb (shownOf (a .assessment) .number) 0 (number-is ∙ z), count-is, st .rest, rows-are, ad .session)
 
       pub print-calls : (after : List ℕ) (r : ℕ) → roomOf text ≤ length before → Wrote (roomOf text - end) (owed text (a .session) begin [] (t .at)) middle after end r
-          → Printed l before after (roomOf text) r
+          → Wrote (roomOf text) (printedOf l) before after 0 r
       print-calls after r k v =
           let x = wrote-more 1478 (roomOf text - end) (admissionText (shownOf (a .assessment))) (owed text (a .session) begin [] (t .at)) before middle after 0 end r
           (omega (arith, w .short)) w v in
-          record {
-            t = named;
-            witness = witness;
-            buffer = x .buffer ∙ ap (overlay before 0) (sym text-calls);
-            length = x .place ∙ (omega (arith, ap length text-calls));
-            fits = omega (arith, v .place, v .short, w .place, w .short);
-          }
+          rw text-calls (record { buffer = x .buffer; place = x .place; short = omega (arith, x .place, v .place, v .short, w .place, w .short) })
 
 pub ruleset print-laws = (second-is, print-refused, print-begun, print-calls)
 
@@ -147,11 +129,11 @@ pub print-room : (input before : List ℕ) (k n : ℕ) → k ≡ roomFor (length
 print-room input before k n d h e = omega (arith, room-is input (take n input) n e refl)
 
 pub entry-printed : (input text before after : List ℕ) (k n r : ℕ) → k ≡ roomFor (length input) → k ≤ length before → n ≡ min (length input) inputLimit
-    → text ≡ take n input → Printed (linesOf text) before after (roomOf text) r → Transcribed input before after r
-unfolding inputLines
+    → text ≡ take n input → Wrote (roomOf text) (printedOf (linesOf text)) before after 0 r → Transcribed input before after r
+unfolding outputOf
 entry-printed input text before after k n r d h e f p =
     let most : roomOf text ≡ roomFor (length input) = room-is input text n e f in
-    printed (omega arith) (subst (λ (x : List ℕ). Printed (linesOf x) before after (roomFor (length input)) r) (f ∙ limit-is input n e) (rw most at p))
+    printed (omega arith) (subst (λ (x : List ℕ). Wrote (roomFor (length input)) (printedOf (linesOf x)) before after 0 r) (f ∙ limit-is input n e) (rw most at p))
 
 pub room-of-least : (n k : ℕ) → k ≡ min n inputLimit → 1564 + 22 * k ≡ roomFor n
 unfolding roomFor
@@ -163,4 +145,4 @@ pub ruleset entry-cases = (entry-short, print-limit, print-room, entry-printed)
 pub written-within : (input before after : List ℕ) (r : ℕ) → Transcribed input before after r → r ≤ length after
 written-within input before after r (tooShort h e z) = omega arith
 written-within input before after r (printed h p) =
-    omega (arith, p .fits, ap length (p .buffer), overlay-length before 0 (printedOf (inputLines input) (p .t)) (omega (arith, p .fits, p .length)))
+    omega (arith, p .place, p .short, ap length (p .buffer), overlay-length before 0 (outputOf input) (omega (arith, p .short)))

@@ -7,13 +7,12 @@ use lib.Dec.{eqb}
 use lib.IntN.{ℤ, pos, negsuc}
 use lib.ListN.{length, getD, take}
 use Rattle.decimal.specs.Decimal.{decimal}
-use Rattle.decimal.specs.Buffer.{overlay}
+use Rattle.decimal.specs.Buffer.{Wrote}
 use Rattle.lines.specs.declared.read.Line.{Line}
 use Rattle.lines.specs.declared.read.Line.the-variants.{Row, Word, Call, Unreadable}
 use Rattle.lines.specs.Lines.{linesOf}
 use Rattle.lines.specs.Text.{headText, lineText}
-use Rattle.table.specs.Rows.{tasksOf}
-use Rattle.table.specs.Verdict.{Answer, answerOf, Exceeded}
+use Rattle.table.specs.Verdict.{Answer, answerOf}
 use Rattle.session.specs.Admit.{sessionOf}
 use Rattle.transcript.specs.Step.{callsText}
 
@@ -62,33 +61,25 @@ unfoldable pub admissionText : Answer → List ℕ
 admissionText a =
     lineText 0 77 (a .number) (a .first) (a .second) ++ cond (eqb (a .number) 0) (budgetsText (a .budgets) (a .second)) []
 
--- the table, then the calls, from the line after the rows on; a refused table ends the output. t is what a refusal 3 names
-unfoldable pub printedOf : List Line → ℕ → List ℕ
-printedOf l t =
-    admissionText (answerOf (rowsIn rowLimit l) t)
-    ++ cond (eqb (answerOf (rowsIn rowLimit l) t .number) 0)
-    (callsText (sessionOf (rowsIn rowLimit l) t) [] (suc (length (rowsIn rowLimit l) / 3)) (afterRows rowLimit l)) []
+-- the table, then the calls, from the line after the rows on; a refused table ends the output
+unfoldable pub printedOf : List Line → List ℕ
+printedOf l =
+    admissionText (answerOf (rowsIn rowLimit l))
+    ++ cond (eqb (answerOf (rowsIn rowLimit l) .number) 0)
+    (callsText (sessionOf (rowsIn rowLimit l)) [] (suc (length (rowsIn rowLimit l) / 3)) (afterRows rowLimit l)) []
 
--- the lines of an input
-unfoldable pub inputLines : List ℕ → List Line
-inputLines input = linesOf (take inputLimit input)
+-- the output for an input
+unfoldable pub outputOf : List ℕ → List ℕ
+outputOf input = printedOf (linesOf (take inputLimit input))
 
 -- a buffer of this length holds every output for n bytes of input: 22 bytes for each of them that is read, 86 for the line
 -- `M`, 87 for each of 16 lines `B`, and 86 for a line `?`
 unfoldable pub roomFor : ℕ → ℕ
 roomFor n = 1564 + 22 * min n inputLimit
 
--- the text stands at the start of the buffer, with the rest as it was, and r, no more than `most`, is its length; a t that
--- it names is exceeded
-pub record Printed (l : List Line) (before after : List ℕ) (most r : ℕ) : Type 0 where
-  pub t : ℕ
-  pub witness : answerOf (rowsIn rowLimit l) t .number ≡ 3 → Exceeded (tasksOf (rowsIn rowLimit l)) t
-  pub buffer : after ≡ overlay before 0 (printedOf l t)
-  pub length : r ≡ length (printedOf l t)
-  pub fits : r ≤ most
-
--- the contract of `transcribe`: a buffer that may be too short is left as it was, with 0 for an answer, which no text has
+-- the contract of `transcribe`: the output stands at the start of the buffer, with the rest as it was, and r is its length; a
+-- buffer that may be too short is left as it was, with 0 for an answer, which no output has for its length
 pub data Transcribed (input before after : List ℕ) (r : ℕ) : Type 0 where
   tooShort : length before < roomFor (length input) → after ≡ before → r ≡ 0 → Transcribed input before after r
-  printed : roomFor (length input) ≤ length before → Printed (inputLines input) before after (roomFor (length input)) r
+  printed : roomFor (length input) ≤ length before → Wrote (roomFor (length input)) (outputOf input) before after 0 r
       → Transcribed input before after r

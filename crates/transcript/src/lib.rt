@@ -2,8 +2,9 @@
 ghost use mathlib.Core.Path.{_≡_};
 ghost use Prim.Native.Nat.{_≤_, min};
 ghost use lib.ListN.{length};
+ghost use Rattle.decimal.specs.Buffer.{Wrote};
 ghost use Rattle.lines.specs.Lines.{linesOf};
-ghost use Rattle.transcript.specs.Transcript.{inputLimit, roomFor, Printed, Transcribed};
+ghost use Rattle.transcript.specs.Transcript.{inputLimit, printedOf, roomFor, Transcribed};
 ghost use Rattle.transcript.specs.Plays.{roomOf};
 use step::Play;
 
@@ -34,7 +35,7 @@ pub fn room_for(n: usize) -> usize
 // A text that may be read whole.
 fn print(text: &[u8], out: &mut [u8]) -> usize
     requires { ⌜ (length (now text) ≤ inputLimit) × (roomOf (now text) ≤ length (now out)) ⌝ }
-    ensures { λ r. ⌜ Printed (linesOf (now (text .entry))) (now (out .entry)) (now (out .exit)) (roomOf (now (text .entry))) r ⌝ }
+    ensures { λ r. ⌜ Wrote (roomOf (now (text .entry))) (printedOf (linesOf (now (text .entry)))) (now (out .entry)) (now (out .exit)) 0 r ⌝ }
 {
     let t = rows::read_rows(text);
     let words = t.words;

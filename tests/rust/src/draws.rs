@@ -8,7 +8,7 @@ use std::fmt;
 use crate::calls::{candidates, draw, lengths, limit};
 use crate::session::Session;
 use crate::table::ROW_LIMIT;
-use crate::tally::too_rare;
+use crate::tally::{too_rare, Among};
 use crate::text::{run_with, Command, Machine, Outcome};
 
 /// A draw of a choice.
@@ -125,18 +125,12 @@ impl<'a> Drawn<'a> {
 /// of how many calls of the library there must be one, and which choices are.
 struct Sort {
     name: &'static str,
-    inputs: u64,
-    calls: u64,
+    one_in: [u64; 2],
     has: fn(&Drawn) -> bool,
 }
 
-const fn sort(name: &'static str, [inputs, calls]: [u64; 2], has: fn(&Drawn) -> bool) -> Sort {
-    Sort {
-        name,
-        inputs,
-        calls,
-        has,
-    }
+const fn sort(name: &'static str, one_in: [u64; 2], has: fn(&Drawn) -> bool) -> Sort {
+    Sort { name, one_in, has }
 }
 
 const SORTS: [Sort; 14] = [
@@ -211,13 +205,6 @@ pub struct DrawnChoices {
     spans: HashSet<u32>,
 }
 
-/// What choices are counted among: inputs of the program, or calls of the library.
-#[derive(Clone, Copy, Debug)]
-pub enum Among {
-    Inputs(u64),
-    Calls(u64),
-}
-
 impl DrawnChoices {
     /// Counts an accepted choice with these draws.
     pub fn add(&mut self, drawn: &Drawn) {
@@ -245,15 +232,7 @@ impl DrawnChoices {
     pub fn gaps(&self, among: Among) -> Vec<String> {
         let sorts = self.counts.into_iter().zip(&SORTS);
         let rare = sorts.filter_map(|(count, sort)| {
-            let (of, one_in, what) = match among {
-                Among::Inputs(inputs) => (inputs, sort.inputs, "inputs"),
-                Among::Calls(calls) => (calls, sort.calls, "calls"),
-            };
-            let gap = format!(
-                "{count} choices {} (fewer than one in {one_in} {what})",
-                sort.name
-            );
-            (count * one_in < of).then_some(gap)
+            among.gap(count, sort.one_in, &format!("choices {}", sort.name))
         });
         let picks = (2..).zip(self.near).filter(|(_, near)| *near == 0);
         let missing =

@@ -2,6 +2,7 @@
 
 use crate::damage::damage_once;
 use crate::driver::{table_text, Driver};
+use crate::overloaded::{late_overload_rows, overloaded_rows};
 use crate::rng::Rng;
 use crate::runs::{extend, Style};
 use crate::specification::plain;
@@ -27,6 +28,8 @@ const fn kind(name: &'static str, weight: usize, make: fn(&mut Rng) -> Vec<u8>) 
 pub const KINDS: &[Kind] = &[
     kind("tables", 180, any_table),
     kind("long-busy", 12, long_busy_table),
+    kind("overloads", 220, overloaded_table),
+    kind("late-overloads", 40, late_overload),
     kind("runs", 240, light_run),
     kind("collisions", 200, small_run),
     kind("full-load", 100, full_run),
@@ -70,6 +73,21 @@ fn any_table(rng: &mut Rng) -> Vec<u8> {
 fn long_busy_table(rng: &mut Rng) -> Vec<u8> {
     let rows = long_busy_rows(rng);
     table_with_calls(rng, &rows, 20)
+}
+
+/// An overloaded table with nothing after it, or with a line that must go unanswered:
+/// a call, an unreadable one, or a row without its newline, which is no row.
+pub fn overloaded_table(rng: &mut Rng) -> Vec<u8> {
+    let mut text = table_text(&overloaded_rows(rng));
+    let end = rng.pick(&["", "", "G/", "A 0/G/R 1/", "W 7/", "x/", "T 1 9 9", "/"]);
+    text.extend(plain(end).bytes());
+    text
+}
+
+/// A table that is overloaded late, if at all.
+fn late_overload(rng: &mut Rng) -> Vec<u8> {
+    let rows = late_overload_rows(rng);
+    table_with_calls(rng, &rows, 4)
 }
 
 /// Random calls after a table; a refused table is followed by one call, which

@@ -11,6 +11,8 @@ pub mod hard;
 pub mod inputs;
 pub mod meter;
 pub mod options;
+pub mod overloaded;
+pub mod overloads;
 pub mod process;
 pub mod questions;
 pub mod readings;

@@ -5,7 +5,7 @@ use crate::calls::{arrive_all, perform, Answer, Arrival, Call};
 use crate::meter::Question;
 use crate::session::{Choice, Job, Session, Slot};
 use crate::shuffle::{self, Reply, Session as Record};
-use crate::table::{admit, budget, compared_range, demand, Kind, Row, ROW_LIMIT};
+use crate::table::{admit, budget, Kind, Row, ROW_LIMIT};
 
 /// A call of the library that gives one answer, with its arguments.
 #[derive(Clone, Debug)]
@@ -219,24 +219,6 @@ pub fn store(record: &mut Record, session: &Session) {
     let (row, left) = choice.unwrap_or_default();
     record.chosen = u64::from(row);
     record.span = left;
-}
-
-/// Whether an answer is the expected one, or the same refusal 3 by another
-/// tick that the specification allows.
-pub fn replies_agree(request: &Request, actual: Reply, expected: Reply) -> bool {
-    let is_overload = |words: &[u32]| {
-        let rows = rows_of(words);
-        (1..=compared_range(&rows)).contains(&actual.first)
-            && demand(&rows, actual.first) == actual.second
-            && actual.second > actual.first
-    };
-    actual == expected
-        || match request {
-            Request::Admit(words) if expected.number == 3 => {
-                actual.number == 3 && actual.used == 0 && is_overload(words)
-            }
-            _ => false,
-        }
 }
 
 /// V of each row of a table; none if the table is refused.

@@ -1,7 +1,7 @@
 //! The specification's own examples, moments at which equal deadlines go by who
 //! came first (change request 01), moments at which unused time goes to the jobs
-//! behind (change request 02), and moments at which words are passed over (change
-//! request 04).
+//! behind (change request 02), moments at which words are passed over (change
+//! request 04), and tables of which the first overload is named (change request 06).
 
 use crate::table::Row;
 
@@ -78,6 +78,94 @@ pub const EXAMPLES: &[Example] = &[
         output: "0 M 0 1 16/0 B 0 0 0/0 B 0 1 0/0 B 0 2 0/0 B 0 3 0/0 B 0 4 0/0 B 0 5 0/\
             0 B 0 6 0/0 B 0 7 0/0 B 0 8 0/0 B 0 9 0/0 B 0 10 0/0 B 0 11 0/0 B 0 12 0/\
             0 B 0 13 0/0 B 0 14 0/0 B 0 15 0/",
+    },
+];
+
+/// Overloaded tables, and some next to them. The demand at a tick is written as a sum
+/// over the rows that are due up to it.
+pub const OVERLOADS: &[Example] = &[
+    // At 2 it is 2, at 3 it is 2 + 2. At 12 it is 2 + 2 + 10, two above the tick; from
+    // 4 to 11 no tick is overloaded.
+    Example {
+        rows: &[[2, 100, 2], [2, 100, 3], [10, 100, 12]],
+        output: "0 M 3 3 4/",
+    },
+    Example {
+        rows: &[[10, 100, 12], [2, 100, 3], [2, 100, 2]],
+        output: "0 M 3 3 4/",
+    },
+    // 3 + 2 exceeds 4, and 2 more are due there.
+    Example {
+        rows: &[[3, 9, 4], [2, 9, 4], [2, 9, 4]],
+        output: "0 M 3 4 7/",
+    },
+    // At 2 it is 2 and at 4 it is 2 + 2, both as long as there is; at 5 it is 6.
+    Example {
+        rows: &[[2, 10, 2], [2, 10, 4], [2, 10, 5]],
+        output: "0 M 3 5 6/",
+    },
+    // The shortest D, and the least tick that can be overloaded.
+    Example {
+        rows: &[[2, 9, 2], [1, 9, 2]],
+        output: "0 M 3 2 3/",
+    },
+    Example {
+        rows: &[[1, 1, 1], [1, 1, 1]],
+        output: "0 M 3 1 2/",
+    },
+    // At 6 it is 2 + 4, at 7 with the second job of row 0 it is 4 + 4, and then never
+    // again too much: the busy length is 8.
+    Example {
+        rows: &[[2, 5, 2], [4, 20, 6]],
+        output: "0 M 3 7 8/",
+    },
+    // Sixteen rows of 2 are due at 31; with one tick more they are loose.
+    Example {
+        rows: &[[2, 100, 31]; 16],
+        output: "0 M 3 31 32/",
+    },
+    // Each tick takes 1/2 + 1/3 + 1/5 = 31/30. At 28 it is 14 + 9 + 5, as at most
+    // ticks before as long as there is; at 30 it is 15 + 10 + 6.
+    Example {
+        rows: &[[1, 2, 2], [1, 3, 3], [1, 5, 5]],
+        output: "0 M 3 30 31/",
+    },
+    // The long row is due at the horizon: 1,000,000 + 1, and 500,000 + 500,001.
+    Example {
+        rows: &[[1, 1, 1], [1, 1_000_000, 1_000_000]],
+        output: "0 M 3 1000000 1000001/",
+    },
+    Example {
+        rows: &[[500_001, 1_000_000, 1_000_000], [1, 2, 2]],
+        output: "0 M 3 1000000 1000001/",
+    },
+    // Here a tick before it: 499,999 + 500,001. With one tick less the first overload
+    // is past the horizon, and with two there is none.
+    Example {
+        rows: &[[1, 2, 2], [500_001, 999_999, 999_999]],
+        output: "0 M 3 999999 1000000/",
+    },
+    Example {
+        rows: &[[1, 2, 2], [500_000, 999_999, 999_999]],
+        output: "0 M 4 1000000 0/",
+    },
+    Example {
+        rows: &[[1, 2, 2], [499_999, 999_999, 999_999]],
+        output: "0 M 0 2 2/0 B 0 0 -499998/0 B 0 1 0/",
+    },
+    // A run that is shortened: at 6 it is 4 + 3, then 3 + 3 and at 9 it is 3 + 3 + 4,
+    // then 2 + 3 and at 9 it is 9.
+    Example {
+        rows: &[[4, 20, 4], [3, 20, 6], [4, 20, 9]],
+        output: "0 M 3 6 7/",
+    },
+    Example {
+        rows: &[[3, 20, 4], [3, 20, 6], [4, 20, 9]],
+        output: "0 M 3 9 10/",
+    },
+    Example {
+        rows: &[[2, 20, 4], [3, 20, 6], [4, 20, 9]],
+        output: "0 M 0 2 3/0 B 0 0 -5/0 B 0 1 -3/0 B 0 2 0/",
     },
 ];
 

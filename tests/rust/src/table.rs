@@ -1,5 +1,7 @@
 //! Task tables: rows, inversion budgets, demand bound, busy length, admission.
 
+use std::iter::from_fn;
+
 /// Most rows in a table.
 pub const ROW_LIMIT: usize = 16;
 /// Longest period, and the last tick at which demand is compared.
@@ -166,28 +168,30 @@ pub fn compared_range(rows: &[Row]) -> u64 {
     busy_length(rows).unwrap_or(HORIZON)
 }
 
-/// The least tick up to `limit` whose demand exceeds it, and that demand.
-///
-/// Only the ticks at which demand grows are visited: between them the tick
-/// grows and the demand does not.
-pub fn first_overload(rows: &[Row], limit: u64) -> Option<(u64, u64)> {
+/// The ticks at which demand grows, in order, each with its demand.
+pub fn growth(rows: &[Row]) -> impl Iterator<Item = (u64, u64)> + '_ {
     let mut due: Vec<u64> = rows.iter().map(|row| u64::from(row.deadline)).collect();
     let mut demand = 0;
-    loop {
+    from_fn(move || {
         let tick = *due.iter().min()?;
-        if tick > limit {
-            return None;
-        }
         for (row, due) in rows.iter().zip(&mut due) {
             if *due == tick {
                 demand += u64::from(row.run);
                 *due += u64::from(row.period);
             }
         }
-        if demand > tick {
-            return Some((tick, demand));
-        }
-    }
+        Some((tick, demand))
+    })
+}
+
+/// The least tick up to `limit` whose demand exceeds it, and that demand.
+///
+/// Only the ticks at which demand grows are visited: between them the tick
+/// grows and the demand does not.
+pub fn first_overload(rows: &[Row], limit: u64) -> Option<(u64, u64)> {
+    growth(rows)
+        .take_while(|(tick, _)| *tick <= limit)
+        .find(|(tick, demand)| demand > tick)
 }
 
 /// Every tick up to `limit` whose demand exceeds it, by trying each tick.

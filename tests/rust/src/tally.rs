@@ -93,3 +93,23 @@ pub fn too_rare(inputs: u64, counts: &[(u64, u64, &str)]) -> Vec<String> {
     })
     .collect()
 }
+
+/// What is counted among: inputs of the program, or calls of the library.
+#[derive(Clone, Copy, Debug)]
+pub enum Among {
+    Inputs(u64),
+    Calls(u64),
+}
+
+impl Among {
+    /// The gap, in words, if a count is too low: of so many inputs or so many calls
+    /// there must be one.
+    pub fn gap(self, count: u64, [inputs, calls]: [u64; 2], what: &str) -> Option<String> {
+        let (of, one_in, name) = match self {
+            Among::Inputs(of) => (of, inputs, "inputs"),
+            Among::Calls(of) => (of, calls, "calls"),
+        };
+        let gap = || format!("{count} {what} (fewer than one in {one_in} {name})");
+        (count * one_in < of).then(gap)
+    }
+}

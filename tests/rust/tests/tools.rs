@@ -2,17 +2,19 @@
 
 use shuffle_model::batches::{Batch, BatchTally};
 use shuffle_model::calls::{candidates, limit, perform, Call};
-use shuffle_model::draws::{Among, DrawTally, Drawn, DrawnChoices, Draws};
+use shuffle_model::draws::{DrawTally, Drawn, DrawnChoices, Draws};
 use shuffle_model::gifts::{shares, FinishTally, GiftTally, Gifts, Share};
 use shuffle_model::hard::{full_to, full_to_one, mutant, utilisation, with_longer_deadlines};
 use shuffle_model::inputs::random_input;
+use shuffle_model::overloaded::{late_overload_rows, overloaded_rows};
+use shuffle_model::overloads::OverloadTally;
 use shuffle_model::rng::Rng;
 use shuffle_model::session::{Choice, Session, IDLE};
 use shuffle_model::sessions::sound_session;
 use shuffle_model::shrink::shrink;
 use shuffle_model::specification::{draws, gifts, listing, plain, ties};
 use shuffle_model::table::{admit, Row, ROW_LIMIT};
-use shuffle_model::tally::Tally;
+use shuffle_model::tally::{Among, Tally};
 use shuffle_model::text::{run, run_watched};
 use shuffle_model::ties::{TieTally, TiedChoices, Ties};
 use shuffle_model::words::{more_words, next_word};
@@ -637,4 +639,110 @@ fn hard_tables_are_lawful_and_nearly_full() {
         assert!(is_lawful(&longer), "{longer:?}");
     }
     assert!(near > 400, "{near} of 500 come near");
+}
+
+/// The sorts of overloaded tables.
+const OVERLOADS: [&str; 14] = [
+    "have a later overload",
+    "have a pause before their last one",
+    "have a greater one later",
+    "have a row in front due at a later one",
+    "lead a search by halves to a later one",
+    "have a demand equal to an earlier tick",
+    "exceed it before the last row due there",
+    "have their first at no row's D",
+    "have it after every D",
+    "have it at the shortest D",
+    "have it at the horizon",
+    "have it after 100,000 ticks",
+    "have no busy length",
+    "have a busy length",
+];
+
+/// The sorts that a table is of, by their places above.
+fn overload_sorts(rows: &[[u32; 3]]) -> Vec<usize> {
+    let rows: Vec<Row> = rows.iter().copied().map(Row::from).collect();
+    let mut tally = OverloadTally::default();
+    tally.add(&rows);
+    let gaps = tally.gaps(Among::Inputs(1));
+    let is_missing = |sort: usize| {
+        let start = format!("0 overloaded tables {} (", OVERLOADS[sort]);
+        gaps.iter().any(|gap| gap.starts_with(&start))
+    };
+    let sorts = 0..OVERLOADS.len();
+    sorts.filter(|sort| !is_missing(*sort)).collect()
+}
+
+#[test]
+fn overloaded_tables_count_by_what_tells_them() {
+    let none: [usize; 0] = [];
+    assert_eq!(overload_sorts(&[]), none);
+    assert_eq!(overload_sorts(&[[3, 5, 2]]), none);
+    assert_eq!(overload_sorts(&[[1, 2, 2], [2, 4, 4]]), none);
+    // 4 at 3, then 14 at 12 and 13. Halves go by 7, 10, 12 and 11. At 2 it is 2.
+    let [short, middle, long] = [[2, 100, 2], [2, 100, 3], [10, 100, 12]];
+    assert_eq!(overload_sorts(&[short, middle, long]), [0, 2, 4, 5, 13]);
+    assert_eq!(overload_sorts(&[long, middle, short]), [0, 2, 3, 4, 5, 13]);
+    // 7 at 4 to 6, and 5 without the last row.
+    let equal = [[3, 9, 4], [2, 9, 4], [2, 9, 4]];
+    assert_eq!(overload_sorts(&equal), [0, 6, 9, 13]);
+    // 8 at 7, when row 0 is due again, and at no other tick. At 2 it is 2.
+    assert_eq!(overload_sorts(&[[2, 5, 2], [4, 20, 6]]), [5, 7, 8, 13]);
+    // 7 at 6, but 8 at 8; 14 at 12. Halves come to 16, 8, 12, 10 and 9. At 3 it is 3.
+    let many = [[1, 2, 2], [2, 3, 3]];
+    assert_eq!(overload_sorts(&many), [0, 1, 2, 4, 5, 7, 8, 12]);
+    // One too many at the horizon alone, and at every tick before as many as there are.
+    let last = [[1, 1, 1], [1, 1_000_000, 1_000_000]];
+    assert_eq!(overload_sorts(&last), [5, 10, 11, 12]);
+}
+
+#[test]
+fn tables_overloaded_past_the_horizon_count_where_they_are_refused() {
+    let beyond = |run| {
+        let mut tally = OverloadTally::default();
+        tally.add(&[[1, 2, 2], [run, 999_999, 999_999]].map(Row::from));
+        tally.to_string()
+    };
+    // 3, 4 and admitted.
+    let end = "refused with 4 are overloaded past the horizon";
+    for (run, count) in [(500_001, 0), (500_000, 1), (499_999, 0)] {
+        assert!(beyond(run).ends_with(&format!("; {count} {end}")), "{run}");
+    }
+}
+
+#[test]
+fn too_few_overloads_are_named() {
+    let mut tally = OverloadTally::default();
+    assert!(tally.gaps(Among::Inputs(0)).is_empty());
+    let gaps = tally.gaps(Among::Inputs(1));
+    assert_eq!(gaps.len(), OVERLOADS.len() + 1);
+    assert_eq!(
+        gaps[1],
+        "0 overloaded tables have a pause before their last one (fewer than one in 60 inputs)"
+    );
+    assert_eq!(
+        tally.gaps(Among::Calls(1))[OVERLOADS.len()],
+        "0 tables refused with 4 are overloaded past the horizon (fewer than one in 50000 calls)"
+    );
+    let mut half = OverloadTally::default();
+    half.add(&[[2, 5, 2], [4, 20, 6]].map(Row::from));
+    tally.merge(half);
+    tally.merge(half);
+    let text = tally.to_string();
+    let start = "of 2 tables refused with 3 0 have a later overload, 0 have a pause";
+    assert!(text.starts_with(start), "{text}");
+    assert!(text.contains(", 2 have it after every D, "), "{text}");
+}
+
+#[test]
+fn overloaded_tables_reach_every_sort() {
+    let mut rng = Rng::new(13);
+    let mut tally = OverloadTally::default();
+    for _ in 0..1_000 {
+        tally.add(&overloaded_rows(&mut rng));
+    }
+    for _ in 0..100 {
+        tally.add(&late_overload_rows(&mut rng));
+    }
+    assert!(tally.gaps(Among::Inputs(8_000)).is_empty(), "{tally}");
 }

@@ -6,7 +6,8 @@ use contract.Running.{givenOf, tables, tablesOf}
 use denote.Triple.Spec.{tripleOf}
 use denote.Triple.Table.{entered, cited}
 use Rattle.table.specs.declared.Assessment.{Assessment}
-use Rattle.table.specs.Assess.{Assessed, shownOf}
+use Rattle.table.specs.Verdict.{answerOf}
+use Rattle.table.specs.Assess.{shownOf}
 use Rattle.session.specs.declared.Session.{Session}
 use Rattle.session.specs.declared.admit.Admission.{Admission}
 use Rattle.session.specs.Admit.{sessionOf, Admitted}
@@ -24,7 +25,7 @@ use Rattle.lent.proofs.admit.Statement as stated
 use Rattle.lent.proofs.admit.Code as code
 
 abbrev Leaves : List ℕ → Assessment → Session → Type 0
-Leaves l a s = Assessed l a × (s ≡ sessionOf l (shownOf a .first))
+Leaves l a s = (shownOf a ≡ answerOf l) × (s ≡ sessionOf l)
 
 abbrev verdictOf : Admission → Assessment
 verdictOf a = a .assessment

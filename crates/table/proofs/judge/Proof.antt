@@ -1,5 +1,6 @@
 -- `table::judge` meets its contract. Assumes nothing.
 use borrow.Author.Needs.{needs}
+use Rattle.table.specs.Overload.{found-exceeds}
 use Rattle.table.specs.Assess.{judge-cases}
 use Rattle.table.proofs.judge.Statement.{statement}
 use Rattle.table.proofs.judge.Tie as tie
@@ -24,6 +25,9 @@ compared-requires c κs = search needs
 
 search-requires : tie.Need-search-requires
 search-requires c κs = search needs
+
+first-requires : tie.Need-first-requires
+first-requires c κs = (search needs, search needs, search (needs, found-exceeds))
 
 refused-requires : tie.Need-refused-requires
 refused-requires c κs = search needs
@@ -51,6 +55,7 @@ judge-spec =
     busy-length-requires
     compared-requires
     search-requires
+    first-requires
     refused-requires
     returns-2
     refused-requires-2

@@ -12,21 +12,26 @@ use shuffle_model::draws::Draws;
 use shuffle_model::driver::table_text;
 use shuffle_model::gifts::Gifts;
 use shuffle_model::inputs::{
-    full_run, light_run, odd_number_input, short_draws, short_gifts, short_run, short_ties,
-    small_run, ODD_LINES, ODD_NUMBERS, SPECIALS,
+    full_run, light_run, odd_number_input, overloaded_table, short_draws, short_gifts, short_run,
+    short_ties, small_run, ODD_LINES, ODD_NUMBERS, SPECIALS,
 };
 use shuffle_model::options::fail;
+use shuffle_model::overloaded::late_overload_rows;
+use shuffle_model::overloads::OverloadTally;
 use shuffle_model::rng::Rng;
-use shuffle_model::specification::{draws, gifts, listing, plain, ties, EXAMPLES};
-use shuffle_model::table::{admit_rows, compared_range, overloads_by_scan, Row};
-use shuffle_model::tables::{light_rows, urgent_rows, RowMaker};
+use shuffle_model::specification::{draws, gifts, listing, plain, ties, EXAMPLES, OVERLOADS};
+use shuffle_model::table::{admit_rows, Row};
+use shuffle_model::tally::Among;
 use shuffle_model::text::{leading_rows, run, run_watched};
 use shuffle_model::ties::Ties;
 
-const SEED: u64 = 7;
-const CASES: usize = 400;
+const SEED: u64 = 12;
+const CASES: usize = 465;
 const LONGEST_CASE: usize = 3_999;
 const LONGEST_RANDOM_CASE: usize = 500;
+/// Random tables that are overloaded, or nearly, and the longest of them.
+const OVERLOADED_CASES: usize = 60;
+const LONGEST_OVERLOAD: usize = 120;
 const LONGEST_STDIN: usize = 60_000;
 /// So many cases must show that arrival decides a tie against the row number.
 const LEAST_TIES: usize = 60;
@@ -47,6 +52,8 @@ fn main() -> io::Result<()> {
     assert!(gifts >= LEAST_GIFTS, "{gifts} cases show a gift");
     let draws = cases.iter().filter(|case| shows_a_draw(case)).count();
     assert!(draws >= LEAST_DRAWS, "{draws} cases show a draw");
+    let gaps = overload_gaps(&cases);
+    assert!(gaps.is_empty(), "{gaps:?}");
     let (stdin, stdout) = store(&cases);
     assert!(stdin.len() < LONGEST_STDIN, "{} bytes", stdin.len());
     fs::write(Path::new(directory).join("stdin"), stdin)?;
@@ -69,9 +76,9 @@ fn store(cases: &[Vec<u8>]) -> (Vec<u8>, Vec<u8>) {
 fn all_cases() -> Vec<Vec<u8>> {
     let mut rng = Rng::new(SEED);
     let mut cases = fixed_cases();
-    cases.extend(overloaded_cases(&mut rng, 12));
+    cases.extend(overloaded_cases(&mut rng, OVERLOADED_CASES));
     cases.extend(damaged_cases(&mut rng, 3));
-    cases.retain(|case| case.len() <= LONGEST_CASE && has_one_output(case));
+    cases.retain(|case| case.len() <= LONGEST_CASE);
     while cases.len() < CASES {
         let make = match rng.below(19) {
             0 => light_run,
@@ -83,7 +90,7 @@ fn all_cases() -> Vec<Vec<u8>> {
             _ => short_draws,
         };
         let case = make(&mut rng);
-        if case.len() <= LONGEST_RANDOM_CASE && has_one_output(&case) {
+        if case.len() <= LONGEST_RANDOM_CASE {
             cases.push(case);
         }
     }
@@ -92,7 +99,8 @@ fn all_cases() -> Vec<Vec<u8>> {
 
 fn fixed_cases() -> Vec<Vec<u8>> {
     let listing = [listing().0.into_bytes()].into_iter();
-    let tables = EXAMPLES.iter().map(|example| table_text(&example.rows()));
+    let tables = EXAMPLES.iter().chain(OVERLOADS);
+    let tables = tables.map(|example| table_text(&example.rows()));
     let texts = SPECIALS.iter().chain(REFUSALS);
     let texts = texts.map(|text| plain(text).into_bytes());
     let many_rows = [16, 17, 18].map(|count| table_text(&vec![Row::from([1, 20, 20]); count]));
@@ -137,29 +145,34 @@ fn shows_a_draw(case: &[u8]) -> bool {
     draws.shown
 }
 
-/// Whether the output is determined: refusal 3 may name any overloaded tick.
-fn has_one_output(case: &[u8]) -> bool {
-    let rows = leading_rows(case);
-    match admit_rows(&rows) {
-        Err(refusal) if refusal.number == 3 => {
-            let mut overloads = overloads_by_scan(&rows, compared_range(&rows));
-            overloads.nth(1).is_none()
-        }
-        _ => true,
+/// Which sorts of overloaded tables are rarer among the cases than they must be among
+/// the inputs of a comparison.
+fn overload_gaps(cases: &[Vec<u8>]) -> Vec<String> {
+    let mut overloads = OverloadTally::default();
+    for case in cases {
+        overloads.add(&leading_rows(case));
     }
+    overloads.gaps(Among::Inputs(cases.len() as u64))
 }
 
-/// Tables refused as overloaded at exactly one tick.
+/// Overloaded tables in few bytes; a few of them are overloaded late, or past the
+/// horizon and not before.
 fn overloaded_cases(rng: &mut Rng, count: usize) -> Vec<Vec<u8>> {
     let mut cases = Vec::new();
     while cases.len() < count {
-        let makers: [RowMaker; 2] = [urgent_rows, light_rows];
-        let text = table_text(&rng.pick(&makers)(rng));
-        if run(&text).starts_with(b"0\tM\t3") && has_one_output(&text) {
+        let text = match rng.below(8) {
+            0 => table_text(&late_overload_rows(rng)),
+            _ => overloaded_table(rng),
+        };
+        if text.len() <= LONGEST_OVERLOAD && is_refused(&text) {
             cases.push(text);
         }
     }
     cases
+}
+
+fn is_refused(case: &[u8]) -> bool {
+    admit_rows(&leading_rows(case)).is_err()
 }
 
 /// Each kind of damage to some short runs.

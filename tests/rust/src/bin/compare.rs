@@ -9,18 +9,18 @@ use shuffle_model::draws::{DrawTally, Draws};
 use shuffle_model::gifts::{GiftTally, Gifts};
 use shuffle_model::inputs::{random_input, KINDS};
 use shuffle_model::options::{fail, Options};
+use shuffle_model::overloads::OverloadTally;
 use shuffle_model::process::{Finished, Program};
 use shuffle_model::rng::Rng;
 use shuffle_model::shrink::shrink;
-use shuffle_model::table::{compared_range, demand};
-use shuffle_model::tally::Tally;
+use shuffle_model::tally::{Among, Tally};
 use shuffle_model::text::{leading_rows, run, run_watched};
 use shuffle_model::ties::{TieTally, Ties};
 
 const THREADS: usize = 2;
 /// From this many inputs on, every reachable answer must have been reached, and
-/// ties that arrival decides, finishes that give and draws that pass words over
-/// must be many enough.
+/// ties that arrival decides, finishes that give, draws that pass words over and
+/// tables of which a wrong rule would name another overload must be many enough.
 const FULL_COUNT: u64 = 20_000;
 const DEFAULT_SEED: u64 = 20_250_301;
 
@@ -47,6 +47,7 @@ fn main() {
     gaps.extend(report.ties.gaps());
     gaps.extend(report.gifts.gaps());
     gaps.extend(report.draws.gaps());
+    gaps.extend(report.overloads.gaps(Among::Inputs(count)));
     if count >= FULL_COUNT && !gaps.is_empty() {
         println!("FAILED: {}", gaps.join(", "));
         exit(1);
@@ -114,6 +115,7 @@ impl<'a> Shared<'a> {
             report.ties.add(ties);
             report.gifts.add(&gifts);
             report.draws.add(&draws);
+            report.overloads.add(&leading_rows(&input));
         }
         report
     }
@@ -126,6 +128,7 @@ struct Report {
     ties: TieTally,
     gifts: GiftTally,
     draws: DrawTally,
+    overloads: OverloadTally,
     disagreement: Option<u64>,
 }
 
@@ -138,6 +141,7 @@ impl Report {
         self.ties.merge(other.ties);
         self.gifts.merge(other.gifts);
         self.draws.merge(other.draws);
+        self.overloads.merge(other.overloads);
         // The lowest case, so that equal seeds show equal disagreements.
         let found = self.disagreement.into_iter().chain(other.disagreement);
         self.disagreement = found.min();
@@ -149,14 +153,15 @@ impl Report {
             .map(|(kind, inputs)| format!("{} {inputs}", kind.name))
             .collect();
         format!(
-            "{} inputs agree ({}); {} output lines; answers {}; {}; {}; {}",
+            "{} inputs agree ({}); {} output lines; answers {}; {}; {}; {}; {}",
             self.inputs.iter().sum::<u64>(),
             by_kind.join(", "),
             self.answers.lines(),
             self.answers,
             self.ties,
             self.gifts,
-            self.draws
+            self.draws,
+            self.overloads
         )
     }
 }
@@ -177,33 +182,11 @@ fn fault(program: &Program, input: &[u8], expected: &[u8]) -> Option<String> {
         Some(format!("it ends with {status}"))
     } else if !finished.stderr.is_empty() {
         Some("it writes to standard error".to_string())
-    } else if !outputs_agree(input, &finished.stdout, expected) {
+    } else if finished.stdout != expected {
         Some("the outputs differ".to_string())
     } else {
         None
     }
-}
-
-/// Equal outputs, or the same refusal 3 by another tick that is overloaded.
-fn outputs_agree(input: &[u8], actual: &[u8], expected: &[u8]) -> bool {
-    let both_overloaded = || read_overload(actual).filter(|_| read_overload(expected).is_some());
-    actual == expected
-        || both_overloaded().is_some_and(|(tick, asked)| {
-            let rows = leading_rows(input);
-            (1..=compared_range(&rows)).contains(&tick)
-                && demand(&rows, tick) == asked
-                && asked > tick
-        })
-}
-
-/// The tick and the demand of an output that is refusal 3 and nothing else.
-fn read_overload(output: &[u8]) -> Option<(u64, u64)> {
-    let text = std::str::from_utf8(output).ok()?;
-    let values = text.strip_prefix("0\tM\t3\t")?.strip_suffix('\n')?;
-    let (tick, asked) = values.split_once('\t')?;
-    let (tick, asked) = (tick.parse().ok()?, asked.parse().ok()?);
-    // Written again, because `parse` allows a sign and leading zeros.
-    (format!("{tick}\t{asked}") == values).then_some((tick, asked))
 }
 
 fn print_disagreement(program: &Program, seed: u64, case: u64) {

@@ -7,11 +7,13 @@ use std::process::exit;
 use std::time::Instant;
 
 use shuffle_model::batches::{Batch, BatchTally};
-use shuffle_model::draws::{Among, Drawn, DrawnChoices};
+use shuffle_model::draws::{Drawn, DrawnChoices};
 use shuffle_model::gifts::FinishTally;
 use shuffle_model::options::Options;
+use shuffle_model::overloaded::{late_overload_rows, overloaded_rows, shorten};
+use shuffle_model::overloads::OverloadTally;
 use shuffle_model::record::{
-    answered, expected, expected_batch, expected_budgets, is_sound, replies_agree, view, Request,
+    answered, expected, expected_batch, expected_budgets, is_sound, rows_of, view, Request,
 };
 use shuffle_model::records::{
     displace, make_ready, random_list, random_record, random_row, sound_record,
@@ -22,7 +24,8 @@ use shuffle_model::session::CLOCK_END;
 use shuffle_model::sessions::random_table;
 use shuffle_model::shuffle::{budget, Arrival, Reply, Session as Record};
 use shuffle_model::table::Row;
-use shuffle_model::tables::{any_rows, long_busy_rows};
+use shuffle_model::tables::{any_rows, long_busy_rows, RowMaker};
+use shuffle_model::tally::Among;
 use shuffle_model::text::{Command, Machine};
 use shuffle_model::ties::TiedChoices;
 use shuffle_model::words::more_words;
@@ -32,10 +35,12 @@ const DEFAULT_SEED: u64 = 20_250_301;
 /// The answer numbers of the calls on records: 0 to 12.
 const NUMBERS: usize = 13;
 /// From this many calls on, each sort of tie must have been reached, and each
-/// sort of finish, of batch and of draw often enough.
+/// sort of finish, of batch, of draw and of overload often enough.
 const FULL_CALLS: u64 = 1_000_000;
 /// Most calls of a history.
 const STEPS: u32 = 400;
+/// Most admissions of a planner.
+const PLANS: u32 = 30;
 /// Of the steps of a history, one in so many is a batch.
 const BATCH_STEP: usize = 10;
 /// Of the choices of a history, one in so many gets a list of words near the limits
@@ -69,6 +74,7 @@ fn main() {
         finishes: FinishTally::default(),
         batches: BatchTally::default(),
         draws: DrawnChoices::default(),
+        overloads: OverloadTally::default(),
         one_by_one: 0,
     };
     test.long_lists();
@@ -86,6 +92,7 @@ fn main() {
     gaps.extend(test.finishes.gaps(test.calls()));
     gaps.extend(test.batches.gaps(test.calls()));
     gaps.extend(test.draws.gaps(Among::Calls(test.calls())));
+    gaps.extend(test.overloads.gaps(Among::Calls(test.calls())));
     if calls >= FULL_CALLS && !gaps.is_empty() {
         println!("FAILED: {}", gaps.join(", "));
         exit(1);
@@ -104,6 +111,7 @@ struct Test {
     finishes: FinishTally,
     batches: BatchTally,
     draws: DrawnChoices,
+    overloads: OverloadTally,
     /// Batches whose rows also arrived one by one, on a copy.
     one_by_one: u64,
 }
@@ -148,7 +156,11 @@ impl Test {
                 }
                 self.each_call(Source::Near, &record);
             }
-            Source::History => self.history(),
+            Source::History => match self.rng.below(8) {
+                0 => self.planner(),
+                1 => self.late_overload(),
+                _ => self.history(),
+            },
         }
     }
 
@@ -188,6 +200,26 @@ impl Test {
             }
         }
         self.each_call(Source::History, &record);
+    }
+
+    /// A planner, who shortens runs until a table is not refused any more.
+    fn planner(&mut self) {
+        let mut record = random_record(&mut self.rng);
+        let mut rows = overloaded_rows(&mut self.rng);
+        for _ in 0..PLANS {
+            let request = Request::Admit(words_of(&rows));
+            let reply = self.check(Source::History, &mut record, &request);
+            if reply.is_accepted() || !shorten(&mut self.rng, &mut rows) {
+                return;
+            }
+        }
+    }
+
+    /// An admission alone, of a table that takes the model long.
+    fn late_overload(&mut self) {
+        let mut record = random_record(&mut self.rng);
+        let words = words_of(&late_overload_rows(&mut self.rng));
+        self.check(Source::History, &mut record, &Request::Admit(words));
     }
 
     /// A million words for a choice between three: every one is passed over, or
@@ -263,7 +295,7 @@ impl Test {
         let was_sound = is_sound(&before);
         let (expected, after) = expected(&before, request);
         let reply = request.perform(record);
-        let agrees = replies_agree(request, reply, expected)
+        let agrees = reply == expected
             && records_agree((&before, was_sound), record, &after)
             && budgets_agree(request);
         if !agrees {
@@ -274,8 +306,10 @@ impl Test {
         }
         self.counts[source as usize][reply.number as usize] += 1;
         self.sound += u64::from(was_sound);
-        if reply.is_accepted() {
-            self.count(&before, request);
+        match request {
+            Request::Admit(words) if reply.number >= 3 => self.overloads.add(&rows_of(words)),
+            _ if reply.is_accepted() => self.count(&before, request),
+            _ => {}
         }
         reply
     }
@@ -358,7 +392,7 @@ impl Test {
         let sources = SOURCES.map(|(source, name)| format!("{name} {}", self.calls_of(source)));
         let answers = (0..NUMBERS).map(|number| format!("{number}:{}", self.count_of(number)));
         format!(
-            "{} calls agree ({}; {} on sound records); answers {}; {}; {}; {}; {}; the rows of {} of \
+            "{} calls agree ({}; {} on sound records); answers {}; {}; {}; {}; {}; {}; the rows of {} of \
             the batches also arrived one by one",
             self.calls(),
             sources.join(", "),
@@ -367,6 +401,7 @@ impl Test {
             self.ties,
             self.finishes,
             self.draws,
+            self.overloads,
             self.batches,
             self.one_by_one
         )
@@ -408,7 +443,8 @@ fn words_of(rows: &[Row]) -> Vec<u32> {
 
 /// The words of a table, admitted or not, now and then of a wrong length.
 fn random_words(rng: &mut Rng) -> Vec<u32> {
-    let mut words = words_of(&any_rows(rng));
+    let makers: [RowMaker; 2] = [any_rows, overloaded_rows];
+    let mut words = words_of(&rng.pick(&makers)(rng));
     match rng.below(16) {
         0 => words.resize(rng.below(60), 1),
         1 => words.truncate(rng.below(4)),

@@ -9,9 +9,10 @@ use std::time::{Duration, Instant};
 
 use shuffle_model::hard::{full_to, full_to_one, mutant, utilisation, with_longer_deadlines};
 use shuffle_model::options::Options;
+use shuffle_model::record::{expected, Request};
 use shuffle_model::rng::Rng;
 use shuffle_model::shuffle::{Session as Record, TIGHT};
-use shuffle_model::table::{admit_rows, busy_length, Row};
+use shuffle_model::table::{busy_length, Row};
 
 const DEFAULT_SEED: u64 = 20_250_301;
 /// The tables reported of each class.
@@ -165,8 +166,8 @@ impl Findings {
     /// What is wrong with the tables kept.
     fn failure(&self, limit: f64) -> Option<String> {
         let mut kept = self.checks.iter().chain(&self.admission);
-        if kept.any(|trial| admit_rows(&trial.rows).is_ok() != trial.is_admitted()) {
-            return Some("the model decides a table otherwise".to_string());
+        if !kept.all(Trial::is_right) {
+            return Some("the model answers the admission of a table otherwise".to_string());
         }
         let time = self.highest();
         (time >= limit).then(|| format!("{time:.1} us, and the limit is {limit} us"))
@@ -214,6 +215,14 @@ impl Trial {
 
     fn is_admitted(&self) -> bool {
         self.class != Class::Refused
+    }
+
+    /// Whether the library answers the admission as the model does.
+    fn is_right(&self) -> bool {
+        let words = words_of(&self.rows);
+        let (reply, _) = Record::admit(&words);
+        let (expected, _) = expected(&Record::NONE, &Request::Admit(words));
+        reply == expected && reply.is_accepted() == self.is_admitted()
     }
 
     fn read_check(&mut self, bar: f64) {

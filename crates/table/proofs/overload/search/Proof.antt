@@ -7,10 +7,10 @@ use Rattle.table.proofs.overload.search.Statement.{statement}
 use Rattle.table.proofs.overload.search.Tie as tie
 
 abbrev Inv-loop : tie.InvT-loop
-Inv-loop words inverses end n t₀ sums₀ lag₀ t sums lag = (Clear (tasksOf words) end t sums) × (lag ≤ 256)
+Inv-loop words inverses floor end n t₀ sums₀ lag₀ t sums lag = (Clear (tasksOf words) floor end t sums) × (lag ≤ 256)
 
 abbrev μ-loop : tie.MeasureT-loop
-μ-loop words inverses end n t₀ sums₀ lag₀ t sums lag = t
+μ-loop words inverses floor end n t₀ sums₀ lag₀ t sums lag = t
 
 count-requires : tie.Need-count-requires Inv-loop μ-loop
 count-requires c κs = search needs
