@@ -83,7 +83,8 @@ enum shuffle_number {
     SHUFFLE_BAD_LENGTH = 1,
     /* A row breaks 1 <= C <= D <= T <= 1,000,000. Values: the first such row. */
     SHUFFLE_BAD_ROW = 2,
-    /* The demand exceeds the time. Values: some t with demand above t, and the demand at t. */
+    /* The demand exceeds the time. Values: the first overload, which is the least t with demand above t, and the
+     * demand at t. It is the first deadline that can be missed when all rows start together. */
     SHUFFLE_OVERLOAD = 3,
     /* No overload found, but no busy length up to the horizon. Values: 1,000,000. */
     SHUFFLE_UNSETTLED = 4,

@@ -35,7 +35,8 @@ pub mod number {
     pub const BAD_LENGTH: u64 = 1;
     /// Admit: a row breaks 1 ≤ C ≤ D ≤ T ≤ 1,000,000. Values: the first such row.
     pub const BAD_ROW: u64 = 2;
-    /// Admit: the demand exceeds the time. Values: some t with demand above t, the demand at t.
+    /// Admit: the demand exceeds the time. Values: the first overload, which is the least t with demand above t, and the
+    /// demand at t. It is the first deadline that can be missed when all rows start together.
     pub const OVERLOAD: u64 = 3;
     /// Admit: no overload found, but no busy length up to the horizon. Values: 1,000,000.
     pub const UNSETTLED: u64 = 4;

@@ -3,7 +3,7 @@ use Prim.Native.Nat.{ℕ, zero, suc, _+_, _-_, _*_, _≤_, _<_}
 use mathlib.Core.Path.{_≡_, refl, sym, ap}
 use mathlib.Core.Bool.{not}
 use mathlib.Core.Logic.{dite, _⊎_, inl, inr, ⊎-elim}
-use native.Mathlib.Nat.{mul-le-mul-left, one-le-mul}
+use native.Mathlib.Nat.{mul-le-mul-left, mul-le-mul-right, one-le-mul}
 use native.Mathlib.Omega.{arith}
 use native.Mathlib.Decide.{decLe, decLt, ℕ-discrete}
 use lib.Dec.{eqb}
@@ -59,6 +59,13 @@ interference τ k r = sumTo (λ j. gate (not (eqb j k)) (rowRequest τ r j)) (τ
 abbrev pub Feasible : TaskSet → Type 0
 Feasible τ = (t : ℕ) → demand τ t ≤ t
 
+-- σ is τ with the same or shorter runs
+pub record Shortened (σ τ : TaskSet) : Type 0 where
+  pub rows : σ .rows ≡ τ .rows
+  pub run : (i : ℕ) → i < σ .rows → σ .C i ≤ τ .C i
+  pub period : (i : ℕ) → i < σ .rows → σ .T i ≡ τ .T i
+  pub deadline : (i : ℕ) → i < σ .rows → σ .D i ≡ τ .D i
+
 -- ---- facts
 
 -- strong induction
@@ -94,6 +101,14 @@ some-due τ t (suc n) =
     (λ (none : NoneDue τ t n). dite (decLe (τ .D n) t) (λ p. inl (n, omega arith, p))
     (λ p. inr (λ i l. dite (ℕ-discrete i n) (λ e. rw e (omega arith)) (λ ne. none i (omega arith)))))
     (some-due τ t n)
+
+-- shorter runs ask for no more
+pub demand-shortened : (σ τ : TaskSet) → Shortened σ τ → (t : ℕ) → demand σ t ≤ demand τ t
+unfolding demand
+demand-shortened σ τ s t =
+    rw (← s .rows)
+    (sum-le (rowDemand σ t) (rowDemand τ t) (σ .rows)
+    (λ i l. rw (s .period i l, s .deadline i l) (mul-le-mul-right (jobsBy (τ .D i) (τ .T i) t) (s .run i l))))
 
 module _ (τ : TaskSet) (ok : Lawful τ) where
   pub demand-mono : (s t : ℕ) → s ≤ t → demand τ s ≤ demand τ t

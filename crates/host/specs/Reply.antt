@@ -5,7 +5,6 @@ use mathlib.Core.List.{List}
 use Rattle.table.specs.declared.Numbers as verdict
 use Rattle.table.specs.Verdict.{Answer, answerOf}
 use Rattle.table.specs.Assess as table
-use Rattle.session.specs.declared.Session.{Session}
 use Rattle.session.specs.declared.Numbers.{Numbers}
 use Rattle.session.specs.declared.Outcome.{Outcome}
 use Rattle.session.specs.declared.admit.Admission.{Admission}

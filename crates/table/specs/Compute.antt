@@ -6,9 +6,9 @@ use mathlib.Core.List.{List}
 use mathlib.Core.Logic.{dite}
 use native.Mathlib.Omega.{arith}
 use native.Mathlib.Decide.{decLt, ℕ-discrete}
-use lib.Dec.{leb, ltb, eqb}
+use lib.Dec.{leb, eqb}
 use lib.ListN.{length}
-use borrow.Author.Tests.{le-leb, lt-ltb, le-ltb, eq-eqb, leb-true, eqb-false, not-true}
+use borrow.Author.Tests.{le-leb, le-ltb, eq-eqb, leb-true, eqb-false, not-true}
 use Rattle.bounded.specs.Tests.{and-true}
 use Rattle.bounded.specs.All.{allTo, all-at}
 use Rattle.bounded.specs.Least.{least-found}

@@ -1,6 +1,6 @@
 -- The search for the first tick whose demand exceeds it (docs/SPECIFICATION.md §3.1). Assumes nothing.
 use Prim.Native.Nat.{ℕ, _+_, _-_, _/_, _≤_, _<_}
-use mathlib.Core.Path.{_≡_, refl}
+use mathlib.Core.Path.{_≡_}
 use mathlib.Core.Bool.{cond}
 use mathlib.Core.Logic.{dite}
 use native.Mathlib.Omega.{arith}
@@ -121,4 +121,4 @@ first-is τ g r n h = record {
   counted = omega (arith, n .counted, n .low);
 }
 
-pub ruleset first-laws = (narrow-start, narrow-middle, narrow-sums, narrow-next, narrow-less, first-is)
+pub ruleset narrow-laws = (narrow-start, narrow-middle, narrow-sums, narrow-next, narrow-less, first-is)

@@ -4,7 +4,7 @@ use mathlib.Core.Path.{_≡_}
 use mathlib.Core.Bool.{false}
 use mathlib.Core.List.{List}
 use lib.ListN.{length}
-use Rattle.edf.specs.Demand.{Feasible, demand, request}
+use Rattle.edf.specs.Demand.{Feasible, Shortened, demand, request}
 use Rattle.edf.specs.Arrivals.{Unservable}
 use Rattle.table.specs.Rows.{horizon, tasksOf, firstBroken}
 use Rattle.table.specs.Verdict.{badLength, answerOf}
@@ -39,8 +39,13 @@ FirstOverload =
     × (answerOf l .second ≡ demand (tasksOf l) (answerOf l .first))
     × ((x : ℕ) → x < answerOf l .first → demand (tasksOf l) x ≤ x)
 
--- and it is a deadline, of the j-th job of some row i, from 0, where all rows start together at 0
+-- it is a deadline, of the j-th job of some row i, from 0, where all rows start together at 0
 abbrev pub OverloadDue : Type 0
 OverloadDue =
     (l : List ℕ) → answerOf l .number ≡ 3
     → (i : ℕ) × (j : ℕ) × (i < tasksOf l .rows) × (answerOf l .first ≡ j * tasksOf l .T i + tasksOf l .D i)
+
+-- and where runs are shortened, it does not come earlier
+abbrev pub ShortenedLater : Type 0
+ShortenedLater =
+    (l m : List ℕ) → answerOf l .number ≡ 3 → answerOf m .number ≡ 3 → Shortened (tasksOf m) (tasksOf l) → answerOf l .first ≤ answerOf m .first

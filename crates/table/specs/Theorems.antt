@@ -3,8 +3,9 @@ use Prim.Native.Nat.{ℕ, zero, suc, _≤_, _<_}
 use mathlib.Core.Path.{_≡_, refl, sym, ap, _∙_}
 use mathlib.Core.Bool.{true, false, not}
 use mathlib.Core.List.{List}
-use mathlib.Core.Logic.{_⊎_, inl, inr, ⊎-elim}
+use mathlib.Core.Logic.{dite, _⊎_, inl, inr, ⊎-elim}
 use native.Mathlib.Omega.{arith}
+use native.Mathlib.Decide.{decLe}
 use lib.Dec.{ltb}
 use lib.ListN.{length}
 use borrow.Author.Tests.{leb-true, leb-false, ltb-true, ltb-false, le-ltb, not-true}
@@ -13,12 +14,12 @@ use Rattle.bounded.specs.All.{all-at}
 use Rattle.bounded.specs.Least.{least-at, least-before}
 use Rattle.bounded.specs.Fixed.{fixed-low, fixed-at, fixed-before}
 use Rattle.bounded.specs.Signed.{negative, difference-negative}
-use Rattle.edf.specs.Demand.{TaskSet, Feasible, demand, request, interference, demand-start, demand-due, busy-suffices, loose-suffices}
+use Rattle.edf.specs.Demand.{TaskSet, Feasible, demand, request, interference, demand-start, demand-due, demand-shortened, busy-suffices, loose-suffices}
 use Rattle.edf.specs.Overload.{overload}
 use Rattle.table.specs.Rows.{horizon, tasksOf, firstBroken, Fit, fit-of, fit-lawful}
 use Rattle.table.specs.Budgets.{budgetOf, loose, looseTo, valuesOf}
 use Rattle.table.specs.Busy.{busyLength}
-use Rattle.table.specs.Statement.{AdmittedFits, OverloadDeserved, UnsettledMeans, FittingRefused, FirstOverload, OverloadDue}
+use Rattle.table.specs.Statement.{AdmittedFits, OverloadDeserved, UnsettledMeans, FittingRefused, FirstOverload, OverloadDue, ShortenedLater}
 use Rattle.table.specs.Verdict.{Answer, refusal, admitted, badLength, comparedTo, firstOverload, overloaded, settled, opinionOf, answerOf}
 use Rattle.table.specs.Assess.{shownOf, Shows, shows-answer, length-fit}
 use Rattle.table.specs.declared.Numbers.{Numbers}
@@ -78,10 +79,10 @@ answer-as l z = let o = answer-lawful l (λ e. omega arith) (λ e. omega arith) 
     by (isUnsettled e f) z = absurd (omega arith)
 
 -- one refused with 3 is overloaded,
-answer-over : (l : List ℕ) → answerOf l .number ≡ 3
+answer-exceeded : (l : List ℕ) → answerOf l .number ≡ 3
     → Fit (tasksOf l) × (overloaded (tasksOf l) ≡ true)
     × (answerOf l ≡ refusal 3 (firstOverload (tasksOf l)) (demand (tasksOf l) (firstOverload (tasksOf l))))
-answer-over l z = let o = answer-lawful l (λ e. omega arith) (λ e. omega arith) in let p = by (o .1) z in (o .0, p .0, p .1)
+answer-exceeded l z = let o = answer-lawful l (λ e. omega arith) (λ e. omega arith) in let p = by (o .1) z in (o .0, p .0, p .1)
   where
     by : {a : Answer} → Opinion (tasksOf l) a → a .number ≡ 3
         → (overloaded (tasksOf l) ≡ true) × (a ≡ refusal 3 (firstOverload (tasksOf l)) (demand (tasksOf l) (firstOverload (tasksOf l))))
@@ -155,19 +156,30 @@ admitted-fits l e =
 
 pub overload-deserved : OverloadDeserved
 overload-deserved l e =
-    let a = answer-over l e in
+    let a = answer-exceeded l e in
     overload (tasksOf l) (fit-lawful (tasksOf l) (a .0)) (firstOverload (tasksOf l)) (overload-exceeded (tasksOf l) (a .0) (a .1))
 
 pub first-overload : FirstOverload
 first-overload l e =
-    let a = answer-over l e in
+    let a = answer-exceeded l e in
     rw (a .2) (overload-exceeded (tasksOf l) (a .0) (a .1), refl, overload-before (tasksOf l) (a .0))
 
 pub overload-due : OverloadDue
 overload-due l e =
-    let a = answer-over l e in
+    let a = answer-exceeded l e in
     let f = first-overload l e in
     demand-due (tasksOf l) (fit-lawful (tasksOf l) (a .0)) (answerOf l .first) (f .0) (f .2)
+
+pub shortened-later : ShortenedLater
+shortened-later l m e f s =
+    dite (decLe (answerOf l .first) (answerOf m .first)) (λ h. h)
+    (λ h. absurd
+    (omega (
+      arith,
+      first-overload m f .0,
+      demand-shortened (tasksOf m) (tasksOf l) s (answerOf m .first),
+      first-overload l e .2 (answerOf m .first) (omega arith),
+    )))
 
 pub unsettled-means : UnsettledMeans
 unsettled-means l e =
