@@ -12,9 +12,8 @@ use Rattle.session.specs.declared.Job.{Job}
 use Rattle.session.specs.Reading.{jobAt, waits}
 use Rattle.session.specs.Order.{arrivalOf}
 use Rattle.session.specs.Before.{came-greater}
-use Rattle.session.specs.Admit.{sessionOf}
 use Rattle.guarantee.specs.Ledger.{Entry}
-use Rattle.guarantee.specs.Statement.{sessionAfter, GreaterFirst, here, past, Arrived, ArrivalsTold}
+use Rattle.guarantee.specs.Statement.{sessionFrom, GreaterFirst, here, past, Arrived, ArrivalsTold}
 use Rattle.guarantee.specs.TiesRow.{over, waiting, Follows, nothing, other, latest}
 use Rattle.guarantee.specs.Keeps.{good-reached}
 use Rattle.guarantee.specs.Guarantee.{tied-reached}
@@ -39,6 +38,6 @@ follows-arrived τ i j l some (latest {e = e} q (waiting b u p a c) r) = record 
 pub arrivals-told : ArrivalsTold
 unfolding arrivalOf waits
 arrivals-told l e calls i h w =
-    let s = sessionAfter (sessionOf l) calls in
+    let s = sessionFrom l calls in
     rw (good-reached l e calls .rows)
     (follows-arrived (tasksOf l) i (jobAt s i) _ (ltb-true 0 (jobAt s i .left) w) (tied-reached l e calls .rows i))

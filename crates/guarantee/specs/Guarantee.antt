@@ -13,7 +13,7 @@ use Rattle.session.specs.Calls.{shown, arriveOf}
 use Rattle.session.specs.Batch.{afterAll, answeredAll}
 use Rattle.session.specs.Admit.{sessionOf}
 use Rattle.guarantee.specs.Ledger.{arrive, Event, Ledger, empty, kept, ledgerFrom, ledgerOf}
-use Rattle.guarantee.specs.Statement.{HostCall, single, batch, sessionBy, recordEvent, eventsBy, sessionAfter, eventsOf, NoJobLate, OneByOne, OverloadDeserved, Deterministic, DeterministicAfter}
+use Rattle.guarantee.specs.Statement.{HostCall, single, batch, sessionBy, recordEvent, eventsBy, sessionAfter, sessionFrom, eventsOf, NoJobLate, OneByOne, OverloadDeserved, Deterministic, DeterministicAfter}
 use Rattle.guarantee.specs.Good.{Good}
 use Rattle.guarantee.specs.KeepsFresh.{good-fresh}
 use Rattle.guarantee.specs.Keeps.{good-call, good-by, good-reached}
@@ -49,7 +49,7 @@ tied-after l g s good tied (c ∷ calls) =
     (tied-after l _ (sessionBy s c) (good-by l s good c) (tied-by l g s good tied c) calls)
 
 pub tied-reached : (l : List ℕ) → answerOf l .number ≡ 0 → (calls : List HostCall)
-    → Tied l (ledgerOf (tasksOf l) (eventsOf (sessionOf l) calls)) (sessionAfter (sessionOf l) calls)
+    → Tied l (ledgerOf (tasksOf l) (eventsOf (sessionOf l) calls)) (sessionFrom l calls)
 tied-reached l e calls = tied-after l empty (sessionOf l) (good-fresh l e) (tied-fresh l e) calls
 
 -- NO JOB IS LATE

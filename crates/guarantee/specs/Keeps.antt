@@ -16,7 +16,7 @@ use Rattle.session.specs.Calls.{shown, three, gains, arriveOf}
 use Rattle.session.specs.Batch.{answered, afterAll, answeredAll}
 use Rattle.session.specs.Admit.{noSession, sessionOf}
 use Rattle.guarantee.specs.Ledger.{Call, arrive, finish}
-use Rattle.guarantee.specs.Statement.{outcomeOf, HostCall, single, batch, sessionBy, recordEvent, eventsBy, sessionAfter, AlwaysSound, NoFive, NeverFive, UnsoundFive, AlwaysFive, GainsAll, CapCutsNothing}
+use Rattle.guarantee.specs.Statement.{outcomeOf, HostCall, single, batch, sessionBy, recordEvent, eventsBy, sessionAfter, sessionFrom, AlwaysSound, NoFive, NeverFive, UnsoundFive, AlwaysFive, GainsAll, CapCutsNothing}
 use Rattle.guarantee.specs.Good.{Good}
 use Rattle.guarantee.specs.Effects.{Effect, refusal, arrived, chosen, advanced, finished, effect-of, unsound-refused}
 use Rattle.guarantee.specs.KeepsArrive.{good-arrive}
@@ -53,7 +53,7 @@ good-after l s g [] = g
 good-after l s g (c ∷ calls) = good-after l (sessionBy s c) (good-by l s g c) calls
 
 -- the session reached from a fresh one
-pub good-reached : (l : List ℕ) → answerOf l .number ≡ 0 → (calls : List HostCall) → Good l (sessionAfter (sessionOf l) calls)
+pub good-reached : (l : List ℕ) → answerOf l .number ≡ 0 → (calls : List HostCall) → Good l (sessionFrom l calls)
 good-reached l e calls = good-after l (sessionOf l) (good-fresh l e) calls
 
 pub always-sound : AlwaysSound
@@ -79,14 +79,14 @@ no-five l s g (single c) = (not-five (effect-of s (g .sound) c), tt)
 no-five l s g (batch rs) = none-five l s g rs
 
 pub never-five : NeverFive
-never-five l e calls c = no-five l (sessionAfter (sessionOf l) calls) (good-reached l e calls) c
+never-five l e calls c = no-five l (sessionFrom l calls) (good-reached l e calls) c
 
 -- a finish that is accepted is not cut
 pub cap-cuts-nothing : CapCutsNothing
 cap-cuts-nothing l e calls z i h w =
     let g = good-reached l e calls in
-    by (subst (λ (x : List ℕ). Good x (sessionAfter (sessionOf l) calls)) (sym (g .rows)) g)
-    (effect-of (sessionAfter (sessionOf l) calls) (g .sound) finish) z (omega (arith, g .count)) w
+    by (subst (λ (x : List ℕ). Good x (sessionFrom l calls)) (sym (g .rows)) g)
+    (effect-of (sessionFrom l calls) (g .sound) finish) z (omega (arith, g .count)) w
   where
     by : {s s′ : Session} {a : Answer} → Good (rowsOf s) s → Effect s finish s′ a → shown a .number ≡ 0 → i < s .count → gains s i ≡ true
         → GainsAll s s′ a i

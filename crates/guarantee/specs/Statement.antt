@@ -60,6 +60,10 @@ unfoldable pub eventsOf : Session → List HostCall → List Event
 eventsOf s [] = []
 eventsOf s (c ∷ l) = eventsBy s c ++ eventsOf (sessionBy s c) l
 
+-- the session that calls lead to from the fresh session of a table
+abbrev pub sessionFrom : List ℕ → List HostCall → Session
+sessionFrom l calls = sessionAfter (sessionOf l) calls
+
 -- a job that is over ended no later than its deadline, arrival + D; any other has its deadline still ahead of the clock
 abbrev pub Timely : TaskSet → ℕ → Entry → Type 0
 Timely τ clock e = by (e .end)
@@ -83,7 +87,7 @@ NoJobLate =
 
 -- the session reached is sound, so that no call from a fresh session is refused with 5
 abbrev pub AlwaysSound : Type 0
-AlwaysSound = (l : List ℕ) → answerOf l .number ≡ 0 → (calls : List HostCall) → sound (sessionAfter (sessionOf l) calls) ≡ true
+AlwaysSound = (l : List ℕ) → answerOf l .number ≡ 0 → (calls : List HostCall) → sound (sessionFrom l calls) ≡ true
 
 -- none of these answers is 5
 abbrev pub NoFive : List Event → Type 0
@@ -93,7 +97,7 @@ NoFive (e ∷ l) = (e .answer .number ≡ 5 → ⊥) × NoFive l
 abbrev pub NeverFive : Type 0
 NeverFive =
     (l : List ℕ) → answerOf l .number ≡ 0
-    → (calls : List HostCall) (c : HostCall) → NoFive (eventsBy (sessionAfter (sessionOf l) calls) c)
+    → (calls : List HostCall) (c : HostCall) → NoFive (eventsBy (sessionFrom l calls) c)
 
 -- ONE BY ONE: a batch leaves the session that its arrives leave one by one, and its records, rows and answers, are these
 -- arrives with their answers
@@ -156,8 +160,8 @@ pub record Arrived (i : ℕ) (a : ℤ) (l : List Entry) : Type 0 where
 abbrev pub ArrivalsTold : Type 0
 ArrivalsTold =
     (l : List ℕ) → answerOf l .number ≡ 0
-    → (calls : List HostCall) (i : ℕ) → i < tasksOf l .rows → waits (sessionAfter (sessionOf l) calls) i ≡ true
-    → Arrived i (arrivalOf (sessionAfter (sessionOf l) calls) i) (ledgerOf (tasksOf l) (eventsOf (sessionOf l) calls) .entries)
+    → (calls : List HostCall) (i : ℕ) → i < tasksOf l .rows → waits (sessionFrom l calls) i ≡ true
+    → Arrived i (arrivalOf (sessionFrom l calls) i) (ledgerOf (tasksOf l) (eventsOf (sessionOf l) calls) .entries)
 
 -- row i's job gains all of the ticks that the answer a of a finish reports as unused, which leads from s to s′: the cap,
 -- D − C, does not cut
@@ -170,10 +174,9 @@ pub record GainsAll (s s′ : Session) (a : Answer) (i : ℕ) : Type 0 where
 abbrev pub CapCutsNothing : Type 0
 CapCutsNothing =
     (l : List ℕ) → answerOf l .number ≡ 0
-    → (calls : List HostCall) → shown (finishOf (sessionAfter (sessionOf l) calls) .answer) .number ≡ 0
-    → (i : ℕ) → i < tasksOf l .rows → gains (sessionAfter (sessionOf l) calls) i ≡ true
-    → GainsAll (sessionAfter (sessionOf l) calls) (finishOf (sessionAfter (sessionOf l) calls) .session)
-    (finishOf (sessionAfter (sessionOf l) calls) .answer) i
+    → (calls : List HostCall) → shown (finishOf (sessionFrom l calls) .answer) .number ≡ 0
+    → (i : ℕ) → i < tasksOf l .rows → gains (sessionFrom l calls) i ≡ true
+    → GainsAll (sessionFrom l calls) (finishOf (sessionFrom l calls) .session) (finishOf (sessionFrom l calls) .answer) i
 
 -- the head is the only candidate
 pub record HeadOnly (s : Session) : Type 0 where

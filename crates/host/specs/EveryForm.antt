@@ -5,7 +5,7 @@ use Rattle.session.specs.declared.Session.{Session}
 use Rattle.session.specs.Calls.{shown}
 use Rattle.session.specs.Admit.{sessionOf}
 use Rattle.guarantee.specs.Ledger.{Call}
-use Rattle.guarantee.specs.Statement.{outcomeOf, HostCall, single, batch, sessionBy, eventsBy, sessionAfter, eventsOf}
+use Rattle.guarantee.specs.Statement.{outcomeOf, HostCall, single, batch, sessionBy, eventsBy, sessionFrom, eventsOf}
 use Rattle.guarantee.specs.Keeps.{never-five}
 use Rattle.guarantee.specs.Guarantee.{no-job-late}
 use Rattle.host.specs.Reply.{replyOf}
@@ -33,4 +33,4 @@ pub no-job-late-any-form : NoJobLateAnyForm
 no-job-late-any-form l e calls = rw (same-events (sessionOf l) calls) (no-job-late l e (callsOf calls))
 
 pub never-five-any-form : NeverFiveAnyForm
-never-five-any-form l e calls f c = rw (same-by f (sessionAfter (sessionOf l) calls) c) (never-five l e calls c)
+never-five-any-form l e calls f c = rw (same-by f (sessionFrom l calls) c) (never-five l e calls c)

@@ -9,7 +9,7 @@ use Rattle.session.specs.declared.Session.{Session}
 use Rattle.session.specs.Calls.{Shown, shown, three}
 use Rattle.session.specs.Admit.{sessionOf}
 use Rattle.guarantee.specs.Ledger.{Call, Event, ledgerOf}
-use Rattle.guarantee.specs.Statement.{outcomeOf, HostCall, single, batch, sessionBy, eventsBy, sessionAfter, NoFive, InTime}
+use Rattle.guarantee.specs.Statement.{outcomeOf, HostCall, single, batch, sessionBy, eventsBy, sessionFrom, NoFive, InTime}
 use Rattle.lent.specs.Reply as lending
 use Rattle.host.specs.declared.Reply.{Reply}
 use Rattle.host.specs.Reply.{replyOf}
@@ -52,4 +52,4 @@ NoJobLateAnyForm =
 abbrev pub NeverFiveAnyForm : Type 0
 NeverFiveAnyForm =
     (l : List ℕ) → answerOf l .number ≡ 0
-    → (calls : List HostCall) (f : Form) (c : HostCall) → NoFive (eventsByForm f (sessionAfter (sessionOf l) calls) c)
+    → (calls : List HostCall) (f : Form) (c : HostCall) → NoFive (eventsByForm f (sessionFrom l calls) c)
