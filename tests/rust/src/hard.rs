@@ -204,6 +204,35 @@ pub fn with_longer_deadlines(rows: &[Row]) -> Option<Vec<Row>> {
     (longer != rows).then_some(longer)
 }
 
+/// The rows with a little more to do: a run longer, a deadline earlier, or a long row
+/// that is due late. Where the rows filled all time, that is mostly too much, and the
+/// first overload lies behind a long stretch without one.
+pub fn with_more_work(rng: &mut Rng, rows: &[Row]) -> Vec<Row> {
+    let mut more = rows.to_vec();
+    let changed = rng.below(rows.len());
+    let row = rows[changed];
+    let [run, period, deadline] = row.numbers().map(i64::from);
+    match rng.below(4) {
+        0 => more[changed] = lawful(run + 1, period, deadline),
+        1 => {
+            let cut = rng.between(1, 1 + (row.deadline - row.run) / 4);
+            more[changed] = lawful(run, period, deadline - i64::from(cut));
+        }
+        _ if rows.len() < ROW_LIMIT => more.push(late_row(rng, 0.0)),
+        // There is no place for one more row, so it does the work of another one too.
+        _ => more[changed] = late_row(rng, f64::from(row.run) / f64::from(row.period)),
+    }
+    more
+}
+
+/// A long row that is due late, and takes a little more than a share of all time.
+fn late_row(rng: &mut Rng, share: f64) -> Row {
+    let period = rng.between(LONGEST / 2, LONGEST);
+    let early = rng.of_any_size(1, period / 2) - 1;
+    let run = (share * f64::from(period)).floor() as i64 + i64::from(rng.between(1, 3));
+    lawful(run, period.into(), (period - early).into())
+}
+
 /// The rows with one to three changes, mostly with the utilisation brought
 /// back, or closer to the most that it may be.
 pub fn mutant(rng: &mut Rng, rows: &[Row], most: f64) -> Vec<Row> {

@@ -75,8 +75,17 @@ pub struct Table {
     pub kind: Kind,
 }
 
+/// A search for the least tick up to a limit whose demand exceeds it; it gives
+/// that demand too.
+pub type Search = fn(&[Row], u64) -> Option<(u64, u64)>;
+
 /// Admission of a slice that holds three numbers to a row.
 pub fn admit(numbers: &[u32]) -> Result<Table, Refusal> {
+    admit_by(numbers, first_overload)
+}
+
+/// Admission with another search for the overload that refusal 3 names.
+pub fn admit_by(numbers: &[u32], search: Search) -> Result<Table, Refusal> {
     let length = numbers.len();
     if length == 0 || length > 3 * ROW_LIMIT || !length.is_multiple_of(3) {
         return Err(Refusal::new(1, length as u64, 0));
@@ -88,7 +97,7 @@ pub fn admit(numbers: &[u32]) -> Result<Table, Refusal> {
     if let Some(unlawful) = rows.iter().position(|row| !row.is_lawful()) {
         return Err(Refusal::new(2, unlawful as u64, 0));
     }
-    let kind = kind_of(&rows)?;
+    let kind = kind_of(&rows, search)?;
     Ok(Table { rows, kind })
 }
 
@@ -99,11 +108,11 @@ pub fn admit_rows(rows: &[Row]) -> Result<Table, Refusal> {
 }
 
 /// The kind of lawful rows, or refusal 3 or 4.
-fn kind_of(rows: &[Row]) -> Result<Kind, Refusal> {
+fn kind_of(rows: &[Row], search: Search) -> Result<Kind, Refusal> {
     if (0..rows.len()).all(|row| budget(rows, row) >= 0) {
         return Ok(Kind::Loose);
     }
-    if let Some((tick, demand)) = first_overload(rows, compared_range(rows)) {
+    if let Some((tick, demand)) = search(rows, compared_range(rows)) {
         return Err(Refusal::new(3, tick, demand));
     }
     match busy_length(rows) {

@@ -1,17 +1,20 @@
 //! Searches for tables on which a checked call takes long. Each such call
 //! first checks the record, and that decides the table anew; so the time of
-//! the check is what counts.
+//! the check is what counts. And for tables whose admission takes long before
+//! it is refused with 3: it names the first overload, which a check does not.
 
 use std::fmt;
 use std::hint::black_box;
 use std::process::exit;
 use std::time::{Duration, Instant};
 
-use shuffle_model::hard::{full_to, full_to_one, mutant, utilisation, with_longer_deadlines};
+use shuffle_model::hard::{
+    full_to, full_to_one, mutant, utilisation, with_longer_deadlines, with_more_work,
+};
 use shuffle_model::options::Options;
 use shuffle_model::record::{expected, Request};
 use shuffle_model::rng::Rng;
-use shuffle_model::shuffle::{Session as Record, TIGHT};
+use shuffle_model::shuffle::{number, Session as Record, TIGHT};
 use shuffle_model::table::{busy_length, Row};
 
 const DEFAULT_SEED: u64 = 20_250_301;
@@ -37,19 +40,47 @@ const LINES: [f64; 6] = [10.0, 30.0, 100.0, 300.0, 1_000.0, 2_000.0];
 const ROOMY: f64 = 0.999 + 1e-12;
 /// The limit of roomy tables in us.
 const ROOMY_LIMIT: f64 = 100.0;
+/// The limit of an admission that is refused with 3, in us: about twice the longest
+/// that was found (tests/worst).
+const OVERLOADED_LIMIT: f64 = 3_500.0;
+/// So many times a full table is given more work, to start at what takes longest.
+const OVERLOADS: usize = 16;
 
 #[derive(Clone, Copy, Debug, PartialEq, Eq)]
 enum Class {
     Roomy,
     Full,
     Refused,
+    /// Refused with 3. Such a table is also one of the refused, for its check.
+    Overloaded,
 }
 
-const CLASSES: [(Class, &str); 3] = [
+const CLASSES: [(Class, &str); 4] = [
     (Class::Roomy, "admitted, utilisation up to 0.999"),
     (Class::Full, "admitted, utilisation above 0.999"),
     (Class::Refused, "refused, in a record that a host made up"),
+    (Class::Overloaded, "admission that is refused with 3"),
 ];
+
+impl Class {
+    /// Whether the time of the admission is what the class is about.
+    fn is_about_admission(self) -> bool {
+        self == Class::Overloaded
+    }
+
+    fn is_admitted(self) -> bool {
+        matches!(self, Class::Roomy | Class::Full)
+    }
+
+    /// The limit of its times in us, where `limit` is that of a check.
+    fn limit(self, limit: f64) -> f64 {
+        match self {
+            Class::Roomy => ROOMY_LIMIT,
+            Class::Full | Class::Refused => limit,
+            Class::Overloaded => OVERLOADED_LIMIT,
+        }
+    }
+}
 
 fn main() {
     let options = Options::read(&["--seconds", "--seed", "--limit"]);
@@ -67,13 +98,9 @@ fn main() {
     let mut failures = Vec::new();
     for ((class, name), findings) in CLASSES.into_iter().zip(&mut search.findings) {
         findings.read_again(0.0);
-        findings.checks.truncate(REPORTED);
+        findings.kept.truncate(REPORTED);
         println!("{name}: {findings}");
-        let limit = match class {
-            Class::Roomy => ROOMY_LIMIT,
-            Class::Full | Class::Refused => limit,
-        };
-        let failure = findings.failure(limit);
+        let failure = findings.failure(class.limit(limit));
         failures.extend(failure.map(|failure| format!("FAILED: {name}: {failure}")));
     }
     for failure in &failures {
@@ -101,9 +128,9 @@ struct Findings {
     /// How many tables reach each of the lines. A table that is not kept is
     /// often read once only, so some of these were slow by chance.
     above: [u64; LINES.len()],
-    /// The tables with the longest check, longest first, each of another climb.
-    checks: Vec<Trial>,
-    /// The table with the longest admission.
+    /// The tables that take longest, longest first, each of another climb.
+    kept: Vec<Trial>,
+    /// The table with the longest admission, where the class is about checks.
     admission: Option<Trial>,
     /// The time spent on climbs in this class.
     spent: Duration,
@@ -111,13 +138,12 @@ struct Findings {
 
 impl Findings {
     fn highest(&self) -> f64 {
-        self.checks.first().map_or(0.0, |trial| trial.check)
+        self.kept.first().map_or(0.0, Trial::time)
     }
 
-    /// What a check must pass to be kept.
-    fn check_bar(&self) -> f64 {
-        let last = self.checks.get(KEPT - 1);
-        last.map_or(0.0, |trial| trial.check)
+    /// What a time must pass to be kept.
+    fn bar(&self) -> f64 {
+        self.kept.get(KEPT - 1).map_or(0.0, Trial::time)
     }
 
     fn admission_bar(&self) -> f64 {
@@ -128,44 +154,44 @@ impl Findings {
     fn add(&mut self, trial: &Trial) {
         self.tried += 1;
         for (above, line) in self.above.iter_mut().zip(LINES) {
-            *above += u64::from(trial.check >= line);
+            *above += u64::from(trial.time() >= line);
         }
-        if trial.admission > self.admission_bar() {
+        if !trial.class.is_about_admission() && trial.admission > self.admission_bar() {
             self.admission = Some(trial.clone());
         }
-        if trial.check > self.check_bar() {
-            self.checks.push(trial.clone());
+        if trial.time() > self.bar() {
+            self.kept.push(trial.clone());
             self.sort();
             // Tables of one climb are much alike.
             let mut climbs = Vec::new();
-            self.checks.retain(|trial| {
+            self.kept.retain(|trial| {
                 let is_first = !climbs.contains(&trial.climb);
                 climbs.push(trial.climb);
                 is_first
             });
-            self.checks.truncate(KEPT);
+            self.kept.truncate(KEPT);
         }
     }
 
     fn sort(&mut self) {
-        self.checks.sort_by(|a, b| b.check.total_cmp(&a.check));
+        self.kept.sort_by(|a, b| b.time().total_cmp(&a.time()));
     }
 
     /// Reads the times of what is kept again, those below the bar once only: a
     /// machine that others use is slow for longer than a few readings take.
     fn read_again(&mut self, bar: f64) {
-        for trial in &mut self.checks {
-            trial.read_check(bar);
+        for trial in &mut self.kept {
+            trial.read(bar);
         }
         if let Some(trial) = &mut self.admission {
-            trial.read_admission(bar.min(trial.admission));
+            trial.read_admission(bar);
         }
         self.sort();
     }
 
     /// What is wrong with the tables kept.
     fn failure(&self, limit: f64) -> Option<String> {
-        let mut kept = self.checks.iter().chain(&self.admission);
+        let mut kept = self.kept.iter().chain(&self.admission);
         if !kept.all(Trial::is_right) {
             return Some("the model answers the admission of a table otherwise".to_string());
         }
@@ -181,8 +207,13 @@ impl fmt::Display for Findings {
             write!(f, " {line} us: {above},")?;
         }
         write!(f, " the worst:")?;
-        for trial in &self.checks {
-            write!(f, "\n  check {:.1} us: {trial}", trial.check)?;
+        for trial in &self.kept {
+            let what = if trial.class.is_about_admission() {
+                "admission"
+            } else {
+                "check"
+            };
+            write!(f, "\n  {what} {:.1} us: {trial}", trial.time())?;
         }
         if let Some(trial) = &self.admission {
             write!(f, "\n  admission {:.1} us: {trial}", trial.admission)?;
@@ -192,16 +223,18 @@ impl fmt::Display for Findings {
 }
 
 impl Trial {
-    /// The table with one reading of its admission and none of the check.
-    fn new(rows: Vec<Row>, climb: u64) -> Self {
+    /// The table with one reading of its admission and none of the check. What an
+    /// overloaded table counts as depends on the class that is sought.
+    fn new(rows: Vec<Row>, climb: u64, sought: Class) -> Self {
         let words = words_of(&rows);
         let start = Instant::now();
         let (reply, record) = Record::admit(&words);
         let admission = us(start.elapsed());
-        let (class, record) = match reply.is_accepted() {
-            false => (Class::Refused, made_up(&words)),
-            true if utilisation(&rows) <= ROOMY => (Class::Roomy, record),
-            true => (Class::Full, record),
+        let (class, record) = match reply.number {
+            number::ACCEPTED if utilisation(&rows) <= ROOMY => (Class::Roomy, record),
+            number::ACCEPTED => (Class::Full, record),
+            number::OVERLOAD if sought == Class::Overloaded => (Class::Overloaded, record),
+            _ => (Class::Refused, made_up(&words)),
         };
         Trial {
             rows,
@@ -213,8 +246,21 @@ impl Trial {
         }
     }
 
-    fn is_admitted(&self) -> bool {
-        self.class != Class::Refused
+    /// The time that its class is about.
+    fn time(&self) -> f64 {
+        if self.class.is_about_admission() {
+            self.admission
+        } else {
+            self.check
+        }
+    }
+
+    fn read(&mut self, bar: f64) {
+        if self.class.is_about_admission() {
+            self.read_admission(bar);
+        } else {
+            self.read_check(bar);
+        }
     }
 
     /// Whether the library answers the admission as the model does.
@@ -222,22 +268,19 @@ impl Trial {
         let words = words_of(&self.rows);
         let (reply, _) = Record::admit(&words);
         let (expected, _) = expected(&Record::NONE, &Request::Admit(words));
-        reply == expected && reply.is_accepted() == self.is_admitted()
+        reply == expected && reply.is_accepted() == self.class.is_admitted()
     }
 
     fn read_check(&mut self, bar: f64) {
-        let time = least_time(bar, || self.record.is_sound() == self.is_admitted());
+        let time = least_time(bar, || self.record.is_sound() == self.class.is_admitted());
         let time = time.unwrap_or_else(|| panic!("soundness is not admission: {self}"));
         self.check = self.check.min(time);
     }
 
     fn read_admission(&mut self, bar: f64) {
-        if self.admission < bar {
-            return;
-        }
         let words = words_of(&self.rows);
         let time = least_time(bar, || {
-            Record::admit(&words).0.is_accepted() == self.is_admitted()
+            Record::admit(&words).0.is_accepted() == self.class.is_admitted()
         });
         let time = time.unwrap_or_else(|| panic!("admission changes: {self}"));
         self.admission = self.admission.min(time);
@@ -266,6 +309,10 @@ impl fmt::Display for Trial {
         match busy_length(&self.rows) {
             Some(length) => write!(f, "busy length {length}, ")?,
             None => write!(f, "no busy length, ")?,
+        }
+        if self.class == Class::Overloaded {
+            let (reply, _) = Record::admit(&words_of(&self.rows));
+            write!(f, "demand {} at tick {}, ", reply.second, reply.first)?;
         }
         write!(f, "{} rows", self.rows.len())?;
         for row in &self.rows {
@@ -349,29 +396,57 @@ impl Search {
     /// a new one.
     fn first(&mut self, class: Class) -> Option<Trial> {
         let findings = &mut self.findings[class as usize];
-        if self.rng.chance(1, 3) && !findings.checks.is_empty() {
+        if self.rng.chance(1, 3) && !findings.kept.is_empty() {
             findings.read_again(f64::INFINITY);
-            let last = self.rng.below(findings.checks.len());
-            return Some(findings.checks[self.rng.below(last + 1)].clone());
+            let last = self.rng.below(findings.kept.len());
+            return Some(findings.kept[self.rng.below(last + 1)].clone());
         }
         self.climbs += 1;
+        if class == Class::Overloaded && self.rng.chance(2, 3) {
+            self.overloaded(self.climbs)
+        } else {
+            self.at_the_edge(class, self.climbs)
+        }
+    }
+
+    /// Short deadlines are mostly refused. The first table that is admitted and
+    /// the last that is refused are next to the edge, where demand is closest to
+    /// the tick.
+    fn at_the_edge(&mut self, class: Class, climb: u64) -> Option<Trial> {
         let mut rows = Some(random_rows(&mut self.rng, class));
         let mut first = None;
-        // Short deadlines are mostly refused. The first table that is admitted
-        // and the last that is refused are next to the edge, where demand is
-        // closest to the tick.
         while let Some(next) = rows {
-            let trial = self.try_rows(next, self.climbs, f64::INFINITY);
+            let trial = self.try_rows(next, climb, f64::INFINITY, class);
             let is_wanted = trial.class == class;
             rows = with_longer_deadlines(&trial.rows);
             if is_wanted {
                 first = Some(trial);
             }
-            if is_wanted != (class == Class::Refused) || self.is_over() {
+            if is_wanted == class.is_admitted() || self.is_over() {
                 break;
             }
         }
         first
+    }
+
+    /// A full table, sometimes the one with the longest admission, with a little
+    /// more to do: of some such tables the one that takes longest.
+    fn overloaded(&mut self, climb: u64) -> Option<Trial> {
+        let slowest = self.findings[Class::Full as usize].admission.clone();
+        let full = match slowest {
+            Some(full) if self.rng.chance(1, 4) => full,
+            _ => self.first(Class::Full)?,
+        };
+        let mut longest: Option<Trial> = None;
+        for _ in 0..OVERLOADS {
+            let rows = with_more_work(&mut self.rng, &full.rows);
+            let trial = self.try_rows(rows, climb, f64::INFINITY, Class::Overloaded);
+            let most = longest.as_ref().map_or(0.0, Trial::time);
+            if trial.class == Class::Overloaded && trial.time() > most {
+                longest = Some(trial);
+            }
+        }
+        longest
     }
 
     /// Changes a table and goes on with what is of the same class and not
@@ -382,36 +457,39 @@ impl Search {
         let most = match at.class {
             Class::Roomy => 0.999,
             Class::Full => 1.0,
-            Class::Refused => 1.0 + 1e-6,
+            Class::Refused | Class::Overloaded => 1.0 + 1e-6,
         };
-        at.read_check(0.0);
-        let mut top = at.check;
+        at.read(0.0);
+        let mut top = at.time();
         let mut misses = 0;
         while misses < MISSES && start.elapsed() < longest && !self.is_over() {
             let rows = mutant(&mut self.rng, &at.rows, most);
-            let trial = self.try_rows(rows, at.climb, NOISE * top);
+            let trial = self.try_rows(rows, at.climb, NOISE * top, at.class);
             misses += 1;
-            if trial.class == at.class && trial.check >= NOISE * top {
-                if trial.check > top / NOISE {
+            if trial.class == at.class && trial.time() >= NOISE * top {
+                if trial.time() > top / NOISE {
                     misses = 0;
                 }
-                top = top.max(trial.check);
+                top = top.max(trial.time());
                 at = trial;
             }
             // What was read while the machine was slow must not stay on top.
             if misses % READ_AGAIN == READ_AGAIN - 1 {
-                at.read_check(0.0);
-                top = at.check;
+                at.read(0.0);
+                top = at.time();
             }
         }
     }
 
     /// Takes the times of a table; those below the bar do not matter.
-    fn try_rows(&mut self, rows: Vec<Row>, climb: u64, bar: f64) -> Trial {
-        let mut trial = Trial::new(rows, climb);
+    fn try_rows(&mut self, rows: Vec<Row>, climb: u64, bar: f64, sought: Class) -> Trial {
+        let mut trial = Trial::new(rows, climb, sought);
         let findings = &mut self.findings[trial.class as usize];
-        trial.read_admission(findings.admission_bar());
-        trial.read_check(findings.check_bar().min(bar));
+        let admission_bar = findings.admission_bar();
+        if !trial.class.is_about_admission() && trial.admission >= admission_bar {
+            trial.read_admission(admission_bar);
+        }
+        trial.read(findings.bar().min(bar));
         findings.add(&trial);
         trial
     }
@@ -422,8 +500,8 @@ fn random_rows(rng: &mut Rng, class: Class) -> Vec<Row> {
     let part = rng.fraction();
     let target = match (class, rng.below(8)) {
         (Class::Roomy, 0) => 0.9 + 0.099 * part,
-        (Class::Roomy, _) | (Class::Refused, 0) => 0.999,
-        (Class::Refused, 1) => 1.0 + 1e-6 * part,
+        (Class::Roomy, _) | (Class::Refused | Class::Overloaded, 0) => 0.999,
+        (Class::Refused | Class::Overloaded, 1) => 1.0 + 1e-6 * part,
         (_, 2..4) => return full_to_one(rng),
         (_, 4..6) => 1.0 - 10f64.powf(-3.0 - 4.0 * part),
         _ => 1.0 - 1e-6 * part,

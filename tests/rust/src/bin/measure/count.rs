@@ -9,7 +9,7 @@ use std::process::Command;
 
 use shuffle_model::options::fail;
 
-/// Calls of each side in a counted run, but for the meter.
+/// Calls of each side in a counted run, but for the meter and overloaded tables.
 pub const COUNTED: u64 = 100;
 
 /// Makes the calls that are counted, each on a copy of a state of its own.

@@ -5,6 +5,7 @@ mod arrivals;
 mod cases;
 mod count;
 mod meters;
+mod overloads;
 mod sides;
 mod time;
 
@@ -32,6 +33,7 @@ fn main() {
         match call {
             arrivals::CALL => arrivals::make_counted_calls(shape, rows),
             meters::CALL => meters::make_counted_calls(options.number("--question", 0)),
+            overloads::CALL => overloads::make_counted_calls(options.number("--question", 0)),
             _ => make_counted_calls(shape, rows, call),
         }
         return;
@@ -44,6 +46,7 @@ fn main() {
         arrivals::check(shape, count);
     }
     meters::check();
+    overloads::check();
     let times = time_all(&tables(&ROWS), &CALLS);
     print_summary(&times);
     print_times("Time of a call, in ns", &times);
@@ -59,6 +62,7 @@ fn main() {
     arrivals::print_counts(scratch);
     print_growth(&counts);
     meters::print(scratch);
+    overloads::print(scratch);
 }
 
 /// A table: its shape, the name of that, and its number of rows.

@@ -7,7 +7,9 @@ use shuffle_model::meter::{meter, Question};
 use shuffle_model::record::{answered, ask_library, reply_of, rows_of, Request};
 use shuffle_model::session::Session;
 use shuffle_model::shuffle::{Arrival, Reply, Session as Record};
-use shuffle_model::table::{admit, admit_by_scan, Kind};
+use shuffle_model::table::{
+    admit, admit_by, admit_by_scan, overloads_by_scan, Kind, Refusal, Table,
+};
 
 use crate::arrivals::Lent;
 
@@ -144,4 +146,32 @@ pub fn library_meter(question: &mut Question) -> Reply {
 #[inline(never)]
 pub fn model_meter(question: &mut Question) -> Reply {
     reply_of(meter(question))
+}
+
+/// The answer to a table that is not admitted.
+fn refused(admission: Result<Table, Refusal>) -> Reply {
+    let Refusal { number, values } = admission.expect_err("the tables are refused");
+    let [first, second] = values;
+    Reply {
+        number: u64::from(number),
+        used: 0,
+        first,
+        second,
+    }
+}
+
+/// The model's admission of a table that it refuses.
+#[no_mangle]
+#[inline(never)]
+pub fn model_refusal(words: &[u32]) -> Reply {
+    refused(admit(words))
+}
+
+/// The same, but for the search for an overload: it tries every tick from 1.
+#[no_mangle]
+#[inline(never)]
+pub fn scan_refusal(words: &[u32]) -> Reply {
+    refused(admit_by(words, |rows, limit| {
+        overloads_by_scan(rows, limit).next()
+    }))
 }
