@@ -103,7 +103,7 @@ overloaded-none τ h =
     lt-leb (leastFrom (λ t. ltb t (demand τ t)) 1 (comparedTo τ)) (comparedTo τ)
     (omega (arith, least-none (λ t. ltb t (demand τ t)) 1 (comparedTo τ) (λ x l k. le-ltb x (demand τ x) (h x l (omega arith)))))
 
--- a tick of the range that is exceeded, and none before it is
+-- a tick of the range that is exceeded, where none before it is, is the first overload
 pub overloaded-first : (τ : TaskSet) (t : ℕ) → 1 ≤ t → t ≤ comparedTo τ → t < demand τ t → ((x : ℕ) → 1 ≤ x → x < t → demand τ x ≤ x)
     → (t ≡ firstOverload τ) × (overloaded τ ≡ true)
 unfolding overloaded firstOverload

@@ -38,16 +38,16 @@ fn narrow(r: Range, middle: u64, f: Found) -> Range
     }
 }
 
-// The first tick that is exceeded, where `last` is one of them. Internal: `assess` tests the rows first.
-pub fn first(words: &[u32], inverses: &[u64; 16], last: Found) -> Found
-    requires { ⌜ Fit (tasksOf (now words)) × Inverses (tasksOf (now words)) (now inverses) × Exceeds (tasksOf (now words)) 0 1000000 last ⌝ }
-    ensures { λ r. ⌜ First (tasksOf (now (words .entry))) last r ⌝ }
+// The first tick that is exceeded, where `found` is one of them. Internal: `assess` tests the rows first.
+pub fn first(words: &[u32], inverses: &[u64; 16], found: Found) -> Found
+    requires { ⌜ Fit (tasksOf (now words)) × Inverses (tasksOf (now words)) (now inverses) × Exceeds (tasksOf (now words)) 0 1000000 found ⌝ }
+    ensures { λ r. ⌜ First (tasksOf (now (words .entry))) found r ⌝ }
 {
     let mut r = Range {
         floor: 0,
-        at: last.at,
-        demand: last.demand,
-        sums: last.sums,
+        at: found.at,
+        demand: found.demand,
+        sums: found.sums,
     };
     while r.floor + 1 < r.at {
         let middle = r.floor + (r.at - r.floor) / 2;
