@@ -61,9 +61,13 @@ extern "C" {
 #define SHUFFLE_METER_STRETCHES 255
 #define SHUFFLE_METER_TICKS 16384
 
-/* The kinds of an admitted table. In a tight session every budget is 0. */
+/*
+ * The kinds of an admitted table: no V is negative; each is; some are. A row whose
+ * V is negative is brittle: the budget of its jobs is 0.
+ */
 #define SHUFFLE_LOOSE UINT64_C(1)
 #define SHUFFLE_TIGHT UINT64_C(2)
+#define SHUFFLE_MIXED UINT64_C(3)
 
 /*
  * The numbers of an answer, each with its two values. A value that is not named
@@ -119,7 +123,7 @@ typedef struct shuffle_job {
     uint64_t next;   /* the earliest next arrival */
     uint64_t due;    /* the waiting job's deadline */
     uint64_t left;   /* its remaining ticks; 0: no job of the row waits */
-    uint64_t budget; /* its budget left: how long later jobs and idle may still run before it; at most D - C */
+    uint64_t budget; /* its budget left: how long later jobs and idle may still run before it; at most D - C, 0 if brittle */
 } shuffle_job;
 
 /*
@@ -129,7 +133,7 @@ typedef struct shuffle_job {
  */
 typedef struct shuffle_session {
     uint64_t clock; /* ticks since admission */
-    uint64_t kind;  /* SHUFFLE_LOOSE or SHUFFLE_TIGHT */
+    uint64_t kind;  /* SHUFFLE_LOOSE, SHUFFLE_TIGHT or SHUFFLE_MIXED */
     uint64_t count; /* the number of rows, 1 to 16 */
     /* Three to a row: C (longest run), T (least time between arrivals), D (from arrival to deadline). */
     uint32_t words[SHUFFLE_WORDS];
@@ -182,7 +186,10 @@ void shuffle_arrive_all(shuffle_session *session, shuffle_arrival *list, size_t 
  * the first `used` of them are used. Without words the earliest deadline runs;
  * of equal deadlines the job that arrived first, and of those of one tick the
  * lowest row. It runs too if no word is left to decide, and a span is then as
- * long as it may be. If no job waits: idle, for 1,000,000 ticks. Refusals: 5, 8.
+ * long as it may be. In a mixed session no job but the first in order is a
+ * candidate that is due later than the next job of some brittle row can be, nor
+ * is idle while a job waits. If no job waits: idle, for 1,000,000 ticks.
+ * Refusals: 5, 8.
  */
 shuffle_reply shuffle_choose(shuffle_session *session, const uint32_t *words, size_t n);
 
@@ -193,11 +200,11 @@ shuffle_reply shuffle_choose(shuffle_session *session, const uint32_t *words, si
 shuffle_reply shuffle_advance(shuffle_session *session, uint64_t n);
 
 /*
- * The chosen job has finished early, and the choice ends. In a loose session the
- * waiting jobs of strictly later deadline gain its unused ticks as budget, each
- * up to its D - C. A job that is done on the very last tick of its span, before
- * C ticks, has no choice in force, so this answers 9: finish it as soon as it is
- * chosen again, before any tick passes. Refusals: 5, 9, 11.
+ * The chosen job has finished early, and the choice ends. The waiting jobs of
+ * strictly later deadline, but for those of brittle rows, gain its unused ticks
+ * as budget, each up to its D - C. A job that is done on the very last tick of its
+ * span, before C ticks, has no choice in force, so this answers 9: finish it as
+ * soon as it is chosen again, before any tick passes. Refusals: 5, 9, 11.
  */
 shuffle_reply shuffle_finish(shuffle_session *session);
 
@@ -205,9 +212,8 @@ shuffle_reply shuffle_finish(shuffle_session *session);
 uint32_t shuffle_is_sound(const shuffle_session *session);
 
 /*
- * V of a row of a table of n words: the budget before it is taken as 0 in a
- * tight session, so it may be negative. 0 if the table is refused or has no such
- * row.
+ * V of a row of a table of n words: the budget of its jobs as they arrive, which
+ * is taken as 0 if V is negative. 0 if the table is refused or has no such row.
  */
 int64_t shuffle_budget(const uint32_t *words, size_t n, uint64_t row);
 

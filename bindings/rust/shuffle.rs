@@ -21,8 +21,11 @@ pub const METER_STRETCHES: usize = 255;
 pub const METER_TICKS: usize = 16_384;
 /// The kind of a table in which no V is negative.
 pub const LOOSE: u64 = 1;
-/// The kind of the other admitted tables; in a session of it every budget is 0.
+/// The kind of a table in which each V is negative; in a session of it every budget is 0.
 pub const TIGHT: u64 = 2;
+/// The kind of a table in which some V are negative. A row whose V is negative is brittle: the
+/// budget of its jobs is 0.
+pub const MIXED: u64 = 3;
 
 /// The numbers of an answer; a value that is not named is 0. If several refusals hold, the lowest
 /// number is given.
@@ -70,7 +73,8 @@ pub struct Job {
     pub due: u64,
     /// Its remaining ticks; 0 if no job of the row waits.
     pub left: u64,
-    /// Its budget left: how long later jobs and idle may still run before it; at most D − C.
+    /// Its budget left: how long later jobs and idle may still run before it; at most D − C, 0 if
+    /// the row is brittle.
     pub budget: u64,
 }
 
@@ -84,7 +88,7 @@ pub struct Job {
 pub struct Session {
     /// Ticks since admission.
     pub clock: u64,
-    /// `LOOSE` or `TIGHT`.
+    /// `LOOSE`, `TIGHT` or `MIXED`.
     pub kind: u64,
     /// The number of rows.
     pub count: u64,
@@ -251,7 +255,9 @@ impl Session {
     /// as four, and no word twice: the first `used` of them are used. Without words the earliest
     /// deadline runs; of equal deadlines the job that arrived first, and of those of one tick the
     /// lowest row. It runs too if no word is left to decide, and a span is then as long as it may
-    /// be. If no job waits: idle, for 1,000,000 ticks. Refusals: 5, 8.
+    /// be. In a mixed session no job but the first in order is a candidate that is due later than the
+    /// next job of some brittle row can be, nor is idle while a job waits. If no job waits: idle, for
+    /// 1,000,000 ticks. Refusals: 5, 8.
     pub fn choose(&mut self, words: &[u32]) -> Reply {
         // SAFETY: as for `replace`.
         unsafe { shuffle_choose(self, words.as_ptr(), words.len()) }
@@ -263,10 +269,10 @@ impl Session {
         shuffle_advance(self, ticks)
     }
 
-    /// The chosen job has finished early, and the choice ends. In a loose session the waiting jobs of
-    /// strictly later deadline gain its unused ticks as budget, each up to its D − C. A job that is
-    /// done on the very last tick of its span, before C ticks, has no choice in force, so this
-    /// answers 9: finish it as soon as it is chosen again, before any tick passes.
+    /// The chosen job has finished early, and the choice ends. The waiting jobs of strictly later
+    /// deadline, but for those of brittle rows, gain its unused ticks as budget, each up to its
+    /// D − C. A job that is done on the very last tick of its span, before C ticks, has no choice in
+    /// force, so this answers 9: finish it as soon as it is chosen again, before any tick passes.
     /// Refusals: 5, 9, 11.
     pub fn finish(&mut self) -> Reply {
         shuffle_finish(self)
@@ -278,7 +284,7 @@ impl Session {
     }
 }
 
-/// V of a row of a table: the budget before it is taken as 0 in a tight session, so it may be
+/// V of a row of a table: the budget of its jobs as they arrive, which is taken as 0 if V is
 /// negative. 0 if the table is refused or has no such row.
 pub fn budget(words: &[u32], row: u64) -> i64 {
     // SAFETY: pointer and length of one slice, never null, also for an empty one.

@@ -1,7 +1,8 @@
 /*
  * How mixed is the schedule of a plant? This host runs a table for as many hyperperiods as
  * the meter takes, once shuffled and once with no random words, which is plain
- * earliest-deadline-first, and prints the meter of both for several interval lengths.
+ * earliest-deadline-first, and prints in how many ticks the two differ, and the meter of
+ * both for several interval lengths.
  *
  *   cc -std=c11 -I include examples/hosts/mixed.c target/staticlib/libhost.a
  *
@@ -123,6 +124,17 @@ static int run(const struct table *t, size_t words_given, uint8_t *rows)
     return 1;
 }
 
+/* In how many ticks the two schedules have different rows. */
+static void print_differing(const uint8_t *shuffled, const uint8_t *unshuffled, size_t n)
+{
+    size_t differing = 0;
+    for (size_t tick = 0; tick < n; tick += 1) {
+        differing += shuffled[tick] != unshuffled[tick];
+    }
+    const double percent = 100.0 * (double)differing / (double)n;
+    printf("in %zu of %zu ticks (%.2f %%) another row runs than without words\n", differing, n, percent);
+}
+
 /* The meter of a schedule, and the schedule entropy in bits that it stands for: eighths, over stretches and window. */
 static void print_meter(const struct table *t, const uint8_t *rows, size_t window, int width)
 {
@@ -153,8 +165,9 @@ int main(int argc, char **argv)
         fputs("a call was refused\n", stderr);
         return 1;
     }
-    printf("%zu hyperperiods of %zu ticks: the meter shows 0 to %" PRIu64 "\n\n", t.stretches, t.ticks, most(&t));
-    puts("interval  threshold   shuffled      bits  unshuffled      bits");
+    printf("%zu hyperperiods of %zu ticks: the meter shows 0 to %" PRIu64 "\n", t.stretches, t.ticks, most(&t));
+    print_differing(shuffled, unshuffled, t.stretches * t.ticks);
+    puts("\ninterval  threshold   shuffled      bits  unshuffled      bits");
     const size_t windows[WINDOWS] = {1, 8, 32, 128, t.ticks};
     for (size_t i = 0; i < WINDOWS; i += 1) {
         if (windows[i] < t.ticks || i == WINDOWS - 1) {

@@ -1,6 +1,6 @@
 //! How mixed is the schedule of a plant? This host runs a table for as many hyperperiods as the
 //! meter takes, once shuffled and once with no random words, which is plain earliest-deadline-first,
-//! and prints the meter of both for several interval lengths.
+//! and prints in how many ticks the two differ, and the meter of both for several interval lengths.
 //!
 //!     rustc --edition 2021 -L native=target/staticlib -l static=host examples/hosts/mixed.rs
 //!
@@ -108,6 +108,15 @@ fn run(table: &Table, words_given: usize) -> Option<Vec<u8>> {
     Some(rows)
 }
 
+/// In how many ticks the two schedules have different rows.
+fn print_differing(shuffled: &[u8], unshuffled: &[u8]) {
+    let n = shuffled.len();
+    let pairs = shuffled.iter().zip(unshuffled);
+    let differing = pairs.filter(|(a, b)| a != b).count();
+    let percent = 100.0 * differing as f64 / n as f64;
+    println!("in {differing} of {n} ticks ({percent:.2} %) another row runs than without words");
+}
+
 /// The meter of a schedule, and the schedule entropy in bits that it stands for: eighths, over
 /// stretches and window.
 fn print_meter(table: &Table, rows: &[u8], window: usize, width: usize) {
@@ -144,12 +153,13 @@ fn main() {
         stop("a call was refused");
     };
     println!(
-        "{} hyperperiods of {} ticks: the meter shows 0 to {}\n",
+        "{} hyperperiods of {} ticks: the meter shows 0 to {}",
         table.stretches,
         table.ticks,
         most(&table)
     );
-    println!("interval  threshold   shuffled      bits  unshuffled      bits");
+    print_differing(&shuffled, &unshuffled);
+    println!("\ninterval  threshold   shuffled      bits  unshuffled      bits");
     let shorter = [1, 8, 32, 128].into_iter();
     for window in shorter.filter(|w| *w < table.ticks).chain([table.ticks]) {
         print!("{window:8}  {:9}", window / 8);

@@ -24,6 +24,15 @@ unfolding allTo
 all-of p zero h = refl
 all-of p (suc n) h = simp (all-of p n (λ i l. h i (omega arith)), h n (omega arith))
 
+-- where not all pass, one fails
+pub all-not : (p : ℕ → Bool) (n : ℕ) → allTo p n ≡ false → (i : ℕ) × (i < n) × (p i ≡ false)
+unfolding allTo
+all-not p zero h = absurd (true≢false h)
+all-not p (suc n) h =
+    both (allTo p n)
+    (λ t. (n, omega arith, simp t at h))
+    (λ f. let r = all-not p n f in (r .0, omega (arith, r .1), r .2))
+
 -- ---- for a loop that tests every index and stops at the first that fails, as `search` asks for them
 
 pub all-start : (p : ℕ → Bool) → allTo p 0 ≡ true

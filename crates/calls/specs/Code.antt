@@ -1,13 +1,14 @@
 -- The code of the calls: each way out is a case of its definition (docs/SPECIFICATION.md §5.3, §5.5, §5.6). Assumes nothing.
 use Prim.Native.Nat.{ℕ, _+_, _-_, _*_, _≤_, _<_, min}
 use mathlib.Core.Path.{_≡_, refl, sym, ap, _∙_}
-use mathlib.Core.Bool.{Bool, true, false, _&&_, cond, true≢false, false≢true}
+use mathlib.Core.Bool.{Bool, true, false, not, _&&_, cond, true≢false}
+use mathlib.Core.List.{List}
 use mathlib.Core.Logic.{⊎-elim, dite}
 use native.Mathlib.Omega.{arith}
 use native.Mathlib.Decide.{ℕ-discrete}
 use lib.Dec.{eqb, ltb, lit≤}
 use lib.IntN.{ℤ, pos, negsuc, natAbs}
-use lib.ListN.{length, set}
+use lib.ListN.{length, getD, set}
 use mir.Syntax.{w64}
 use mir.Val.{Fits}
 use borrow.Author.Tests.{lt-ltb, le-ltb, le-leb, lt-leb, eq-eqb, ne-eqb}
@@ -21,11 +22,12 @@ use Rattle.session.specs.declared.Session.{Session}
 use Rattle.session.specs.declared.Answer.the-variants.{Arrived, Advanced, Finished, NoRow, TooEarly, NoChoice, BadStep, Idling, ClockEnd}
 use Rattle.session.specs.declared.Outcome.{Outcome}
 use Rattle.edf.specs.Demand.{TaskSet}
-use Rattle.session.specs.Reading.{idle, clockEnd, jobAt, tasks, waits, natural, startBy, startBudget}
+use Rattle.session.specs.Reading.{idle, clockEnd, jobAt, tasks, waits, natural, startBudget}
 use Rattle.session.specs.Sound.{sound}
 use Rattle.session.specs.Facts.{Facts, Choice, Running, facts-of, facts-fit}
+use Rattle.session.specs.Arrive.{natural-none}
 use Rattle.session.specs.Ahead.{aheadBy, DueOf, ahead-is}
-use Rattle.session.specs.Soundness.{rows-count}
+use Rattle.session.specs.Brittle.{rows-count, Marks}
 use Rattle.session.specs.Calls.{refused, changed, overJob, withBudget, steppedOf, arrivedBy, arrivedJob, arriveIn, agedJob, overBy, overAfter, advanceIn, unusedOf, gains, givenJob, finishedOf, finishIn}
 use Rattle.session.specs.Jobs.{doneTo, done-past, done-next}
 
@@ -68,34 +70,24 @@ step-fits s n e ne l = let b = in-force s e ne in record { fits = omega (arith, 
 
 -- ---- arrive
 
-pub start-tight : (kind : ℕ) (v : ℤ) → (kind ≡ 1 → ⊥) → 0 ≡ startBy kind v
-unfolding startBy
-start-tight kind v ne = simp (ne-eqb kind 1 ne)
-
-natural-none : (v : ℤ) → negative v ≡ true → 0 ≡ natural v
-natural-none (pos n) e = absurd (false≢true e)
-natural-none (negsuc n) e = refl
-
 natural-some : (v : ℤ) → negative v ≡ false → natAbs v ≡ natural v
 natural-some (pos n) e = refl
 natural-some (negsuc n) e = absurd (true≢false e)
 
 -- w is what the machine reads back of v
-pub start-none : (kind : ℕ) (v w : ℤ) (b : Bool) → kind ≡ 1 → w ≡ v → b ≡ negative w → b ≡ true → 0 ≡ startBy kind v
-unfolding startBy
-start-none kind v w b e r h t = simp (eq-eqb kind 1 e) (natural-none v (ap negative (sym r) ∙ sym h ∙ t))
+pub start-none : (v w : ℤ) (b : Bool) → w ≡ v → b ≡ negative w → b ≡ true → 0 ≡ natural v
+start-none v w b r h t = sym (natural-none v (ap negative (sym r) ∙ sym h ∙ t))
 
-pub start-some : (kind x : ℕ) (v w : ℤ) (b : Bool) → kind ≡ 1 → w ≡ v → b ≡ negative w → b ≡ false → x ≡ natAbs w → x ≡ startBy kind v
-unfolding startBy
-start-some kind x v w b e r h f g = simp (eq-eqb kind 1 e) (g ∙ ap natAbs r ∙ natural-some v (ap negative (sym r) ∙ sym h ∙ f))
+pub start-some : (x : ℕ) (v w : ℤ) (b : Bool) → w ≡ v → b ≡ negative w → b ≡ false → x ≡ natAbs w → x ≡ natural v
+start-some x v w b r h f g = g ∙ ap natAbs r ∙ natural-some v (ap negative (sym r) ∙ sym h ∙ f)
 
-pub ruleset start-cases = (start-tight, start-none, start-some)
+pub ruleset start-cases = (start-none, start-some)
 
 -- w is what the machine reads back of V
-pub arrived-is : (τ : TaskSet) (i clock kind start : ℕ) (k : Task) (v w : ℤ) → FitRow τ i k → v ≡ budgetOf τ i → w ≡ v → start ≡ startBy kind w
-    → record { next = clock + k .period; due = clock + k .deadline; left = k .run; budget = start } ≡ arrivedBy τ i clock kind
+pub arrived-is : (τ : TaskSet) (i clock start : ℕ) (k : Task) (v w : ℤ) → FitRow τ i k → v ≡ budgetOf τ i → w ≡ v → start ≡ natural w
+    → record { next = clock + k .period; due = clock + k .deadline; left = k .run; budget = start } ≡ arrivedBy τ i clock
 unfolding startBudget
-arrived-is τ i clock kind start k v w f e r g = let u = f .row in rw (u .period, u .deadline, u .run, g, r, e)
+arrived-is τ i clock start k v w f e r g = let u = f .row in rw (u .period, u .deadline, u .run, g, r, e)
 
 module _ (s : Session) (row : ℕ) where
   pub arrive-unknown : (o : Outcome) → s .count ≤ row → o ≡ refused s (NoRow row) → o ≡ arriveIn s row
@@ -132,24 +124,24 @@ module _ (s : Session) where
 
 pub ruleset finish-cases = (finish-none, finish-idle, finish-done)
 
--- whether j gains what a job that is due at `due` leaves unused
-unfoldable pub gainsBy : Job → ℕ → ℕ → Bool
-gainsBy j due kind = eqb kind 1 && (ltb 0 (j .left) && ltb due (j .due))
+-- whether j, whose row is brittle or not, gains what a job that is due at `due` leaves unused
+unfoldable pub gainsBy : Job → ℕ → Bool → Bool
+gainsBy j due m = not m && (ltb 0 (j .left) && ltb due (j .due))
 
-module _ (j : Job) (due kind : ℕ) where
-  pub gains-tight : (kind ≡ 1 → ⊥) → false ≡ gainsBy j due kind
+module _ (j : Job) (due : ℕ) (m : Bool) where
+  pub gains-brittle : m ≡ true → false ≡ gainsBy j due m
   unfolding gainsBy
-  gains-tight ne = simp (ne-eqb kind 1 ne)
+  gains-brittle e = simp e
 
-  pub gains-none : kind ≡ 1 → j .left < 1 → false ≡ gainsBy j due kind
+  pub gains-none : m ≡ false → j .left < 1 → false ≡ gainsBy j due m
   unfolding gainsBy
-  gains-none e h = simp (eq-eqb kind 1 e, le-ltb 0 (j .left) (omega arith))
+  gains-none e h = simp (e, le-ltb 0 (j .left) (omega arith))
 
-  pub gains-later : kind ≡ 1 → 1 ≤ j .left → ltb due (j .due) ≡ gainsBy j due kind
+  pub gains-later : m ≡ false → 1 ≤ j .left → ltb due (j .due) ≡ gainsBy j due m
   unfolding gainsBy
-  gains-later e h = simp (eq-eqb kind 1 e, lt-ltb 0 (j .left) (omega arith))
+  gains-later e h = simp (e, lt-ltb 0 (j .left) (omega arith))
 
-pub ruleset gains-cases = (gains-tight, gains-none, gains-later)
+pub ruleset gains-cases = (gains-brittle, gains-none, gains-later)
 
 module _ (b n most : ℕ) where
   pub capped-all : most < n → most ≡ min (b + n) most
@@ -164,22 +156,22 @@ module _ (b n most : ℕ) where
 pub ruleset capped-cases = (capped-all, capped-most, capped-sum)
 
 -- row i's job j after c, which is due at `due`, is over with n unused ticks
-unfoldable pub givenBy : TaskSet → ℕ → Job → ℕ → ℕ → ℕ → ℕ → Job
-givenBy τ i j c due n kind =
+unfoldable pub givenBy : TaskSet → ℕ → Job → ℕ → ℕ → ℕ → Bool → Job
+givenBy τ i j c due n m =
     cond (eqb i c) (overJob j)
-    (cond (gainsBy j due kind) (withBudget j (min (j .budget + n) (τ .D i - τ .C i))) j)
+    (cond (gainsBy j due m) (withBudget j (min (j .budget + n) (τ .D i - τ .C i))) j)
 
-module _ (τ : TaskSet) (i : ℕ) (j : Job) (c due n kind : ℕ) where
-  pub given-over : (o : Job) → i ≡ c → o ≡ overJob j → o ≡ givenBy τ i j c due n kind
+module _ (τ : TaskSet) (i : ℕ) (j : Job) (c due n : ℕ) (m : Bool) where
+  pub given-over : (o : Job) → i ≡ c → o ≡ overJob j → o ≡ givenBy τ i j c due n m
   unfolding givenBy
   given-over o e f = f ∙ sym (simp (eq-eqb i c e))
 
-  pub given-more : (b : Bool) (k : Task) (x : ℕ) → (i ≡ c → ⊥) → b ≡ gainsBy j due kind → b ≡ true → FitRow τ i k
-      → x ≡ min (j .budget + n) (k .deadline - k .run) → withBudget j x ≡ givenBy τ i j c due n kind
+  pub given-more : (b : Bool) (k : Task) (x : ℕ) → (i ≡ c → ⊥) → b ≡ gainsBy j due m → b ≡ true → FitRow τ i k
+      → x ≡ min (j .budget + n) (k .deadline - k .run) → withBudget j x ≡ givenBy τ i j c due n m
   unfolding givenBy
   given-more b k x ne e t f g = let r = f .row in rw (g, r .deadline, r .run) (sym (simp (ne-eqb i c ne, sym e ∙ t)))
 
-  pub given-same : (b : Bool) → (i ≡ c → ⊥) → b ≡ gainsBy j due kind → b ≡ false → j ≡ givenBy τ i j c due n kind
+  pub given-same : (b : Bool) → (i ≡ c → ⊥) → b ≡ gainsBy j due m → b ≡ false → j ≡ givenBy τ i j c due n m
   unfolding givenBy
   given-same b ne e f = sym (simp (ne-eqb i c ne, sym e ∙ f))
 
@@ -200,11 +192,11 @@ ending-of s p e n ne =
 pub ending-rows : (s : Session) (i : ℕ) → Ending s → i < s .count → Fit (tasks s) × (i < tasks s .rows)
 ending-rows s i f l = (f .fit, omega (arith, rows-count s (f .few) (f .places)))
 
-pub given-next : (s q : Session) (i : ℕ) (j : Job) → q ≡ doneTo s (givenJob s) i
-    → j ≡ givenBy (tasks s) i (jobAt q i) (s .chosen) (jobAt s (s .chosen) .due) (unusedOf s) (s .kind)
+pub given-next : (s q : Session) (k : List Bool) (i : ℕ) (j : Job) → q ≡ doneTo s (givenJob s) i → Marks s k → i < s .count
+    → j ≡ givenBy (tasks s) i (jobAt q i) (s .chosen) (jobAt s (s .chosen) .due) (unusedOf s) (getD k i false)
     → changed q (q .clock) (set (q .jobs) i j) (q .chosen) (q .span) ≡ doneTo s (givenJob s) (i + 1)
 unfolding givenBy givenJob gainsBy gains waits
-given-next s q i j e f = done-next s (givenJob s) q i j e (rw (done-past s (givenJob s) q i e) at f)
+given-next s q k i j e h l f = done-next s (givenJob s) q i j e (rw (done-past s (givenJob s) q i e, h .at i l) at f)
 
 pub finished-is : (s q : Session) (i m : ℕ) → q ≡ doneTo s (givenJob s) i → i ≤ m → m ≤ i → m ≡ s .count
     → record { answer = Finished (s .chosen) (unusedOf s); used = 0; session = changed q (q .clock) (q .jobs) 0 0 } ≡ finishedOf s

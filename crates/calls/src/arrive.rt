@@ -4,7 +4,7 @@ ghost use mathlib.Core.Bool.{true};
 ghost use Prim.Native.Nat.{_≤_, _<_};
 ghost use Rattle.table.specs.Rows.{tasksOf, Fit};
 ghost use Rattle.table.specs.Inverse.{Inverses};
-ghost use Rattle.session.specs.Reading.{clockEnd, tasks, startBy};
+ghost use Rattle.session.specs.Reading.{clockEnd, tasks, natural};
 ghost use Rattle.session.specs.Sound.{sound};
 ghost use Rattle.session.specs.Calls.{arrivedBy, arriveIn, arriveOf};
 use session::Answer;
@@ -15,27 +15,24 @@ use session::refuse;
 use session::sound::is_sound;
 use table::inverse::inverses_of;
 
-// A row's starting budget: V in a loose session, 0 in a tight one.
-fn start_budget(kind: u64, v: i64) -> u64
-    ensures { λ r. ⌜ r ≡ startBy kind v ⌝ }
+// A row's starting budget: V, and 0 where that is negative.
+fn start_budget(v: i64) -> u64
+    ensures { λ r. ⌜ r ≡ natural v ⌝ }
 {
-    if kind == 1 {
-        if table::budgets::below_zero(v) {
-            return 0;
-        }
-        return table::budgets::magnitude(v);
+    if table::budgets::below_zero(v) {
+        return 0;
     }
-    0
+    table::budgets::magnitude(v)
 }
 
 // The job that arrives now in row i of a table, by the inverses of its periods.
-fn arriving_by(rows: &[u32], inverses: &[u64; 16], i: usize, clock: u64, kind: u64) -> Job
+fn arriving_by(rows: &[u32], inverses: &[u64; 16], i: usize, clock: u64) -> Job
     requires { ⌜ Fit (tasksOf (now rows)) × Inverses (tasksOf (now rows)) (now inverses) × (i < tasksOf (now rows) .rows) × (clock ≤ clockEnd) ⌝ }
-    ensures { λ r. ⌜ r ≡ arrivedBy (tasksOf (now (rows .entry))) i clock kind ⌝ }
+    ensures { λ r. ⌜ r ≡ arrivedBy (tasksOf (now (rows .entry))) i clock ⌝ }
 {
     let k = table::rows::fit_row(rows, i);
     let v = table::budgets::value_of(rows, inverses, i);
-    let start = start_budget(kind, v);
+    let start = start_budget(v);
     Job {
         next: clock + k.period,
         due: clock + k.deadline,
@@ -44,12 +41,12 @@ fn arriving_by(rows: &[u32], inverses: &[u64; 16], i: usize, clock: u64, kind: u
     }
 }
 
-fn arriving(rows: &[u32], i: usize, clock: u64, kind: u64) -> Job
+fn arriving(rows: &[u32], i: usize, clock: u64) -> Job
     requires { ⌜ Fit (tasksOf (now rows)) × (i < tasksOf (now rows) .rows) × (clock ≤ clockEnd) ⌝ }
-    ensures { λ r. ⌜ r ≡ arrivedBy (tasksOf (now (rows .entry))) i clock kind ⌝ }
+    ensures { λ r. ⌜ r ≡ arrivedBy (tasksOf (now (rows .entry))) i clock ⌝ }
 {
     let inverses = inverses_of(rows);
-    arriving_by(rows, &inverses, i, clock, kind)
+    arriving_by(rows, &inverses, i, clock)
 }
 
 // `arrive` without its check, for callers who can prove that the session is sound.
@@ -71,7 +68,7 @@ pub fn arrive_sound(s: Session, row: u64) -> Outcome
     }
     let words = s.words;
     let e = 3 * (count as usize);
-    let k = arriving(&words[..e], i, clock, s.kind);
+    let k = arriving(&words[..e], i, clock);
     q.jobs[i] = k;
     q.chosen = 0;
     q.span = 0;
@@ -112,7 +109,7 @@ pub fn arrive_by(s: Session, inverses: &[u64; 16], row: u64) -> Outcome
     }
     let words = s.words;
     let e = 3 * (count as usize);
-    let k = arriving_by(&words[..e], inverses, i, s.clock, s.kind);
+    let k = arriving_by(&words[..e], inverses, i, s.clock);
     t.jobs[i] = k;
     t.chosen = 0;
     t.span = 0;

@@ -1,7 +1,8 @@
 -- The marked tables and moments (docs/SPECIFICATION.md §7), as one table of cases and one theorem. Assumes nothing.
 use Prim.Native.Nat.{ℕ, zero, suc, _-_, _/_}
-use mathlib.Core.Path.{_≡_, refl}
-use mathlib.Core.Bool.{Bool, true, false}
+use mathlib.Core.Path.{_≡_, refl, _∙_}
+use mathlib.Core.Bool.{Bool, true, false, _&&_}
+use lib.Dec.{leb}
 use native.Mathlib.Omega.{arith}
 use mathlib.Core.List.{List, [], _∷_, _++_}
 use lib.IntN.{ℤ, pos, negℤ}
@@ -15,20 +16,20 @@ use Rattle.bounded.specs.Least.{leastFrom}
 use Rattle.edf.specs.Jobs.{jobsBy}
 use Rattle.edf.specs.Demand.{demand, request, interference}
 use Rattle.table.specs.Rows.{tasksOf, rowRule, broken, firstBroken}
-use Rattle.table.specs.Budgets.{budgetOf, looseTo, loose, valuesTo, valuesOf}
+use Rattle.table.specs.Budgets.{budgetOf, brittle, looseTo, loose, firmTo, firm, valuesTo, valuesOf}
 use Rattle.table.specs.Busy.{busyLength}
-use Rattle.table.specs.Verdict.{badLength, firstOverload, overloaded, opinionOf, answerOf}
+use Rattle.table.specs.Verdict.{admitted, badLength, firstOverload, overloaded, heavyKind, opinionOf, answerOf}
 use Rattle.session.specs.declared.Job.{Job}
 use Rattle.session.specs.declared.Session.{Session}
-use Rattle.session.specs.Reading.{idle, noJob, rowsOf, waits, ahead, startBy, startBudget, mostBudget}
+use Rattle.session.specs.Reading.{clockEnd, noJob, rowsOf, waits, ahead, startBudget, mostBudget}
 use Rattle.session.specs.Sound.{soundRows, soundWaiting, soundJob, runs, affords, soundChoice, sound}
-use Rattle.session.specs.Order.{arrivalOf, cameBefore, before, isHead, headOf, permits, candidate, candidates, position, rowWith, candidateAt}
+use Rattle.session.specs.Order.{arrivalOf, cameBefore, before, isHead, headOf, permits, brittleDue, near, candidate, idles, candidates, position, rowWith, candidateAt}
 use Rattle.session.specs.Choose.{drawLimit, passedOver, draw, drawUsed, contested, drawn, pickOf, room, unopposed, lengthDrawn, spanOf, pickUsed, usedOf}
 use Rattle.session.specs.Calls.{Shown, shown, three, arriveIn, chooseIn, jobsWith, agedJob, overBy, overAfter, advanceIn, gains, givenJob, finishIn, arriveOf, chooseOf, advanceOf, finishOf}
 use Rattle.session.specs.Admit.{wordsTo, freshOf, sessionOf}
 use Rattle.guarantee.specs.Ledger.{Call, arrive, choose, advance, finish}
 use Rattle.guarantee.specs.Statement.{outcomeOf}
-use Rattle.table.specs.Compute.{quietTo, busy-is, not-overloaded, first-over, answer-over, answer-tight}
+use Rattle.table.specs.Compute.{quietTo, busy-is, not-overloaded, first-over, answer-over, answer-heavy}
 
 -- what is asked of the definitions
 pub data Question : Type 0 where
@@ -45,6 +46,8 @@ pub data Question : Type 0 where
   head : Session → Question
   -- whether each of the first n rows of a session is a candidate, and then whether idle is one
   chosenFrom : Session → ℕ → Question
+  -- the brittle deadline of a session
+  brittleBy : Session → Question
   -- a call on a session
   called : Session → Call → Question
 
@@ -61,8 +64,8 @@ pub data Reply : Type 0 where
   outcome : Shown → ℕ → Session → Reply
 
 abbrev candidatesTo : Session → ℕ → List Bool
-candidatesTo s zero = permits s idle ∷ []
-candidatesTo s (suc n) = candidatesFrom s n (permits s idle ∷ [])
+candidatesTo s zero = idles s ∷ []
+candidatesTo s (suc n) = candidatesFrom s n (idles s ∷ [])
   where
     candidatesFrom : Session → ℕ → List Bool → List Bool
     candidatesFrom s zero l = candidate s 0 ∷ l
@@ -76,6 +79,7 @@ reply (opened l) = fresh (sessionOf l)
 reply (soundness s) = flag (sound s)
 reply (head s) = row (headOf s)
 reply (chosenFrom s n) = flags (candidatesTo s n)
+reply (brittleBy s) = ticks (brittleDue s)
 reply (called s c) = outcome (shown (outcomeOf s c .answer)) (outcomeOf s c .used) (outcomeOf s c .session)
 
 pub record Case : Type 0 where
@@ -104,11 +108,11 @@ over = 1 ∷ 2 ∷ 2 ∷ 2 ∷ 3 ∷ 3 ∷ []
 abbrev wrong : List ℕ
 wrong = 3 ∷ 5 ∷ 2 ∷ []
 
--- a session of a few rows: its table, the rows' jobs, the clock and the choice
-abbrev session : List ℕ → List Job → ℕ → ℕ → ℕ → Session
-session l jobs clock c n = record {
+-- a session of a few rows: its kind and table, the rows' jobs, the clock and the choice
+abbrev session : ℕ → List ℕ → List Job → ℕ → ℕ → ℕ → Session
+session kind l jobs clock c n = record {
   clock = clock;
-  kind = 1;
+  kind = kind;
   count = length l / 3;
   words = l ++ replicate (48 - length l) 0;
   jobs = jobs ++ replicate (16 - length jobs) noJob;
@@ -122,14 +126,14 @@ job next due left budget = record { next = next; due = due; left = left; budget 
 -- deadlines 10, 10, 20 with budgets 3, 0, 4; rows 0 and 1 arrived on the same tick
 abbrev equal : Session
 equal =
-    session (1 ∷ 10 ∷ 10 ∷ 1 ∷ 10 ∷ 10 ∷ 1 ∷ 20 ∷ 20 ∷ []) (job 10 10 1 3 ∷ job 10 10 1 0 ∷ job 20 20 1 4 ∷ []) 0 0 0
+    session 1 (1 ∷ 10 ∷ 10 ∷ 1 ∷ 10 ∷ 10 ∷ 1 ∷ 20 ∷ 20 ∷ []) (job 10 10 1 3 ∷ job 10 10 1 0 ∷ job 20 20 1 4 ∷ []) 0 0 0
 
 -- two rows of unequal D, and sessions of theirs from call to call: row 1 arrives at 0 and row 0 at 10, both due at 20
 abbrev unequal : List ℕ
 unequal = 1 ∷ 10 ∷ 10 ∷ 1 ∷ 20 ∷ 20 ∷ []
 
 abbrev of : Job → Job → ℕ → ℕ → ℕ → Session
-of a b clock c n = session unequal (a ∷ b ∷ []) clock c n
+of a b clock c n = session 1 unequal (a ∷ b ∷ []) clock c n
 
 abbrev u₀ : Session
 u₀ = of noJob noJob 0 0 0
@@ -159,7 +163,7 @@ abbrev behind : List ℕ
 behind = 2 ∷ 100 ∷ 20 ∷ 5 ∷ 100 ∷ 30 ∷ 3 ∷ 100 ∷ 30 ∷ 4 ∷ 100 ∷ 40 ∷ 1 ∷ 100 ∷ 50 ∷ []
 
 abbrev four : Job → Job → Job → Job → ℕ → ℕ → ℕ → Session
-four a b c d clock chosen n = session behind (a ∷ b ∷ c ∷ d ∷ noJob ∷ []) clock chosen n
+four a b c d clock chosen n = session 1 behind (a ∷ b ∷ c ∷ d ∷ noJob ∷ []) clock chosen n
 
 abbrev f₀ : Session
 f₀ = four noJob noJob noJob noJob 0 0 0
@@ -197,7 +201,7 @@ abbrev listing : List ℕ
 listing = 2 ∷ 10 ∷ 10 ∷ 3 ∷ 20 ∷ 15 ∷ []
 
 abbrev at : Job → Job → ℕ → ℕ → ℕ → Session
-at a b clock c n = session listing (a ∷ b ∷ []) clock c n
+at a b clock c n = session 1 listing (a ∷ b ∷ []) clock c n
 
 abbrev s₀ : Session
 s₀ = at noJob noJob 0 0 0
@@ -233,11 +237,88 @@ s₉ = at (job 10 0 0 0) (job 20 15 2 7) 4 0 0
 abbrev s₂With : ℕ → ℕ → Session
 s₂With c n = at (job 10 10 2 5) (job 20 15 3 8) 0 c n
 
+-- sessions of the mixed table, whose rows 2 and 3 are brittle, from call to call: rows 0 and 3 arrive at 0, due at 10 and 12,
+-- and row 2 at 2, due at 7
+abbrev mixed : Job → Job → Job → Job → ℕ → ℕ → ℕ → Session
+mixed a b c d clock chosen n = session 3 heavy (a ∷ b ∷ c ∷ d ∷ []) clock chosen n
+
+abbrev m₀ : Session
+m₀ = mixed noJob noJob noJob noJob 0 0 0
+
+abbrev m₁ : Session
+m₁ = mixed (job 10 10 4 1) noJob noJob noJob 0 0 0
+
+abbrev m₂ : Session
+m₂ = mixed (job 10 10 4 1) noJob noJob (job 12 12 2 0) 0 0 0
+
+abbrev m₃ : Session
+m₃ = mixed (job 10 10 4 1) noJob noJob (job 12 12 2 0) 0 0 4
+
+abbrev m₄ : Session
+m₄ = mixed (job 10 10 2 1) noJob noJob (job 12 12 2 0) 2 0 2
+
+abbrev m₅ : Session
+m₅ = mixed (job 10 10 2 1) noJob (job 7 7 1 0) (job 12 12 2 0) 2 0 0
+
+abbrev m₆ : Session
+m₆ = mixed (job 10 10 2 1) noJob (job 7 7 1 0) (job 12 12 2 0) 2 2 1
+
+-- at 3, where the next job of row 2 can arrive at x; calls lead to 7
+abbrev m₇ : ℕ → Session
+m₇ x = mixed (job 10 10 2 1) noJob (job x 0 0 0) (job 12 12 2 0) 3 0 0
+
+-- the same with a choice: c for n ticks
+abbrev m₇With : ℕ → ℕ → ℕ → Session
+m₇With x c n = mixed (job 10 10 2 1) noJob (job x 0 0 0) (job 12 12 2 0) 3 c n
+
+-- the same where the budgets of rows 0 and 3 are a and b
+abbrev m₇Has : ℕ → ℕ → Session
+m₇Has a b = mixed (job 10 10 2 a) noJob (job 7 0 0 0) (job 12 12 2 b) 3 0 0
+
+abbrev m₈ : Session
+m₈ = mixed (job 10 10 2 1) (job 23 23 1 3) (job 7 0 0 0) (job 12 12 2 0) 3 0 0
+
+abbrev m₉ : Session
+m₉ = mixed (job 10 10 2 1) (job 23 23 1 3) (job 7 0 0 0) (job 12 12 2 0) 3 0 2
+
+abbrev m₁₀ : Session
+m₁₀ = mixed (job 10 0 0 0) (job 23 23 1 5) (job 7 0 0 0) (job 12 12 2 0) 3 0 0
+
+-- rows 0 and 1 wait, both with budget
+abbrev both-wait : Session
+both-wait = mixed (job 10 10 4 1) (job 20 20 1 3) noJob noJob 0 0 0
+
+pub mixed-cases : List Case
+mixed-cases =
+    is (called m₀ (arrive 0)) (outcome (three 0 0 10) 0 m₁)
+    ∷ is (called m₁ (arrive 3)) (outcome (three 0 3 12) 0 m₂)
+    ∷ is (brittleBy m₂) (ticks 5)
+    ∷ is (chosenFrom m₂ 4) (flags (true ∷ false ∷ false ∷ false ∷ false ∷ []))
+    ∷ is (called m₂ (choose (1 ∷ []))) (outcome (three 0 0 4) 0 m₃)
+    ∷ is (called m₃ (advance 2)) (outcome (three 0 2 0) 0 m₄)
+    ∷ is (called m₄ (arrive 2)) (outcome (three 0 2 7) 0 m₅)
+    ∷ is (called m₅ (choose (1 ∷ []))) (outcome (three 0 2 1) 0 m₆)
+    ∷ is (called m₆ (advance 1)) (outcome (three 0 0 1) 0 (m₇ 7))
+    ∷ is (brittleBy (m₇ 7)) (ticks 12)
+    ∷ is (chosenFrom (m₇ 7) 4) (flags (true ∷ false ∷ false ∷ true ∷ false ∷ []))
+    ∷ is (called (m₇ 7) (choose (1 ∷ []))) (outcome (three 0 3 1) 1 (m₇With 7 3 1))
+    ∷ is (brittleBy (m₇ 6)) (ticks 11)
+    ∷ is (chosenFrom (m₇ 6) 4) (flags (true ∷ false ∷ false ∷ false ∷ false ∷ []))
+    ∷ is (called (m₇ 6) (choose (1 ∷ []))) (outcome (three 0 0 2) 0 (m₇With 6 0 2))
+    ∷ is (chosenFrom both-wait 4) (flags (true ∷ false ∷ false ∷ false ∷ false ∷ []))
+    ∷ is (called (m₇ 7) (arrive 1)) (outcome (three 0 1 23) 0 m₈)
+    ∷ is (called m₈ (choose [])) (outcome (three 0 0 2) 0 m₉)
+    ∷ is (called m₉ finish) (outcome (three 0 0 2) 0 m₁₀)
+    ∷ is (soundness (m₇Has 6 0)) (flag true)
+    ∷ is (soundness (m₇Has 7 0)) (flag false)
+    ∷ is (soundness (m₇Has 1 1)) (flag false)
+    ∷ []
+
 pub cases : List Case
 cases =
     is (verdict easy) (answer 0 1 3)
     ∷ is (budgets easy) (values (pos 3 ∷ pos 8 ∷ pos 0 ∷ []))
-    ∷ is (verdict heavy) (answer 0 2 4)
+    ∷ is (verdict heavy) (answer 0 3 4)
     ∷ is (budgets heavy) (values (pos 1 ∷ pos 3 ∷ negℤ (pos 3) ∷ negℤ (pos 2) ∷ []))
     ∷ is (busy heavy) (ticks 9)
     ∷ is (verdict long) (answer 0 2 4)
@@ -291,7 +372,8 @@ cases =
     ∷ is (called s₂ (choose (4294967294 ∷ 5 ∷ []))) (outcome (three 0 16 1) 2 (s₂With 16 1))
     ∷ is (called s₂ (choose (4294967295 ∷ 4294967295 ∷ []))) (outcome (three 0 0 2) 2 (s₂With 0 2))
     ∷ is (called s₂ (choose (4 ∷ 4294967295 ∷ []))) (outcome (three 0 1 3) 2 (s₂With 1 3))
-    ∷ []
+    ∷ is (opened heavy) (fresh m₀)
+    ∷ mixed-cases
 
 -- ---- the tables that are not loose, computed up to the tick that decides them
 
@@ -301,26 +383,56 @@ unfolding tasksOf quietTo allTo demand request sumTo gate jobsBy ceilDiv
 over-first = first-over (tasksOf over) 5 refl (omega arith) (omega arith)
 
 over-verdict : reply (verdict over) ≡ answer 3 6 7
-unfolding badLength firstBroken broken rowRule tasksOf loose looseTo allTo budgetOf interference demand request sumTo gate jobsBy ceilDiv leastFrom
+unfolding badLength firstBroken broken rowRule tasksOf loose looseTo brittle allTo budgetOf interference demand request sumTo gate jobsBy ceilDiv leastFrom
 over-verdict = rw (answer-over over refl refl refl 6 over-first)
 
 heavy-busy : busyLength (tasksOf heavy) ≡ 9
 unfolding tasksOf quietTo allTo demand request sumTo gate jobsBy ceilDiv
 heavy-busy = busy-is (tasksOf heavy) 8 refl (omega arith) refl
 
-heavy-verdict : reply (verdict heavy) ≡ answer 0 2 4
-unfolding badLength firstBroken broken rowRule tasksOf loose looseTo allTo budgetOf interference quietTo demand request sumTo gate jobsBy ceilDiv leastFrom
-heavy-verdict =
-    rw (answer-tight heavy refl refl refl (not-overloaded (tasksOf heavy) 8 refl (omega arith) refl (omega arith)) (omega (arith, heavy-busy)))
+heavy-answer : answerOf heavy ≡ admitted 3 (tasksOf heavy)
+unfolding badLength firstBroken broken rowRule tasksOf loose looseTo brittle heavyKind firm firmTo allTo budgetOf interference quietTo demand request sumTo gate jobsBy ceilDiv leastFrom
+heavy-answer =
+    rw (answer-heavy heavy refl refl refl (not-overloaded (tasksOf heavy) 8 refl (omega arith) refl (omega arith)) (omega (arith, heavy-busy)))
 
 long-busy : busyLength (tasksOf long) ≡ 80
 unfolding tasksOf quietTo allTo demand request sumTo gate jobsBy ceilDiv
 long-busy = busy-is (tasksOf long) 79 refl (omega arith) refl
 
 long-verdict : reply (verdict long) ≡ answer 0 2 4
-unfolding badLength firstBroken broken rowRule tasksOf loose looseTo allTo budgetOf interference quietTo demand request sumTo gate jobsBy ceilDiv leastFrom
+unfolding badLength firstBroken broken rowRule tasksOf loose looseTo brittle heavyKind firm firmTo allTo budgetOf interference quietTo demand request sumTo gate jobsBy ceilDiv leastFrom
 long-verdict =
-    rw (answer-tight long refl refl refl (not-overloaded (tasksOf long) 79 refl (omega arith) refl (omega arith)) (omega (arith, long-busy)))
+    rw (answer-heavy long refl refl refl (not-overloaded (tasksOf long) 79 refl (omega arith) refl (omega arith)) (omega (arith, long-busy)))
+
+-- ---- the sessions of the mixed table
+
+-- the session that a table's answer leads to
+opened-by : (l : List ℕ) (k : ℕ) → answerOf l ≡ admitted k (tasksOf l) → sessionOf l ≡ freshOf l k
+unfolding sessionOf
+opened-by l k e = simp e
+
+-- such a session is sound exactly if its clock, jobs and choice are
+mixed-sound : (s : Session) → rowsOf s ≡ heavy → s .kind ≡ 3 → s .count ≡ 4
+    → sound s ≡ (leb (s .clock) clockEnd && (allTo (soundJob s) (s .count) && soundChoice s))
+unfolding sound soundRows
+mixed-sound s e k n = simp (e, heavy-answer, k, n)
+
+-- and then a call gives what its core does
+arrives : (s : Session) (k : ℕ) → sound s ≡ true → arriveOf s k ≡ arriveIn s k
+unfolding arriveOf
+arrives s k e = simp e
+
+chooses : (s : Session) (l : List ℕ) → sound s ≡ true → chooseOf s l ≡ chooseIn s l
+unfolding chooseOf
+chooses s l e = simp e
+
+advances : (s : Session) (n : ℕ) → sound s ≡ true → advanceOf s n ≡ advanceIn s n
+unfolding advanceOf
+advances s n e = simp e
+
+finishes : (s : Session) → sound s ≡ true → finishOf s ≡ finishIn s
+unfolding finishOf
+finishes s e = simp e
 
 -- ---- every case holds
 
@@ -331,14 +443,84 @@ abbrev pub All : List Case → Type 0
 All [] = Unit
 All (c ∷ l) = Holds c × All l
 
+-- the mixed moments
+mixed-moments : All mixed-cases
+unfolding mixed-cases tasksOf allTo brittle budgetOf foldTo interference sumTo gate ceilDiv leastFrom rowsOf waits ahead startBudget mostBudget soundWaiting soundJob runs affords soundChoice arrivalOf cameBefore before isHead headOf permits brittleDue near candidate idles candidates position rowWith candidateAt drawLimit passedOver draw drawUsed contested drawn pickOf room unopposed lengthDrawn spanOf pickUsed usedOf arriveIn chooseIn jobsWith agedJob overBy overAfter advanceIn gains givenJob finishIn
+mixed-moments =
+    let ok : (s : Session) → rowsOf s ≡ heavy → s .kind ≡ 3 → s .count ≡ 4 → (leb (s .clock) clockEnd && (allTo (soundJob s) (s .count) && soundChoice s)) ≡ true → sound s ≡ true =
+    λ s e k n h. mixed-sound s e k n ∙ h in (
+      rw (arrives m₀ 0 (ok m₀ refl refl refl refl)),
+      (
+        rw (arrives m₁ 3 (ok m₁ refl refl refl refl)),
+        (
+          refl,
+          (
+            refl,
+            (
+              rw (chooses m₂ (1 ∷ []) (ok m₂ refl refl refl refl)),
+              (
+                rw (advances m₃ 2 (ok m₃ refl refl refl refl)),
+                (
+                  rw (arrives m₄ 2 (ok m₄ refl refl refl refl)),
+                  (
+                    rw (chooses m₅ (1 ∷ []) (ok m₅ refl refl refl refl)),
+                    (
+                      rw (advances m₆ 1 (ok m₆ refl refl refl refl)),
+                      (
+                        refl,
+                        (
+                          refl,
+                          (
+                            rw (chooses (m₇ 7) (1 ∷ []) (ok (m₇ 7) refl refl refl refl)),
+                            (
+                              refl,
+                              (
+                                refl,
+                                (
+                                  rw (chooses (m₇ 6) (1 ∷ []) (ok (m₇ 6) refl refl refl refl)),
+                                  (
+                                    refl,
+                                    (
+                                      rw (arrives (m₇ 7) 1 (ok (m₇ 7) refl refl refl refl)),
+                                      (
+                                        rw (chooses m₈ [] (ok m₈ refl refl refl refl)),
+                                        (
+                                          rw (finishes m₉ (ok m₉ refl refl refl refl)),
+                                          (
+                                            rw (mixed-sound (m₇Has 6 0) refl refl refl),
+                                            (
+                                              rw (mixed-sound (m₇Has 7 0) refl refl refl),
+                                              (rw (mixed-sound (m₇Has 1 1) refl refl refl), tt),
+                                            ),
+                                          ),
+                                        ),
+                                      ),
+                                    ),
+                                  ),
+                                ),
+                              ),
+                            ),
+                          ),
+                        ),
+                      ),
+                    ),
+                  ),
+                ),
+              ),
+            ),
+          ),
+        ),
+      ),
+    )
+
 pub every-case : All cases
-unfolding cases answerOf opinionOf badLength firstBroken broken rowRule tasksOf loose looseTo allTo budgetOf valuesOf valuesTo foldTo interference demand request sumTo gate jobsBy ceilDiv leastFrom rowsOf waits ahead startBy startBudget mostBudget soundRows soundWaiting soundJob runs affords soundChoice sound arrivalOf cameBefore before isHead headOf permits candidate candidates position rowWith candidateAt drawLimit passedOver draw drawUsed contested drawn pickOf room unopposed lengthDrawn spanOf pickUsed usedOf arriveIn chooseIn jobsWith agedJob overBy overAfter advanceIn gains givenJob finishIn arriveOf chooseOf advanceOf finishOf wordsTo freshOf sessionOf
+unfolding cases answerOf opinionOf badLength firstBroken broken rowRule tasksOf loose looseTo allTo budgetOf valuesOf valuesTo foldTo interference demand request sumTo gate jobsBy ceilDiv leastFrom rowsOf waits ahead brittle startBudget mostBudget soundRows soundWaiting soundJob runs affords soundChoice sound arrivalOf cameBefore before isHead headOf permits brittleDue near candidate idles candidates position rowWith candidateAt drawLimit passedOver draw drawUsed contested drawn pickOf room unopposed lengthDrawn spanOf pickUsed usedOf arriveIn chooseIn jobsWith agedJob overBy overAfter advanceIn gains givenJob finishIn arriveOf chooseOf advanceOf finishOf wordsTo freshOf sessionOf
 every-case =
-    (refl, (refl, (heavy-verdict, (refl, (rw heavy-busy, (long-verdict, (rw long-busy, (refl, (refl, (over-verdict, (refl, (refl, equals))))))))))))
+    (refl, (refl, (rw heavy-answer, (refl, (rw heavy-busy, (long-verdict, (rw long-busy, (refl, (refl, (over-verdict, (refl, (refl, equals))))))))))))
   where
     -- words that are passed over
     passed : All (drop 51 cases)
-    passed = (refl, (refl, (refl, (refl, (refl, tt)))))
+    passed = (refl, (refl, (refl, (refl, (refl, (rw (opened-by heavy 3 heavy-answer), mixed-moments))))))
 
     -- the listing
     listed : All (drop 40 cases)

@@ -1,2 +1,3 @@
+pub mod Nearest
 pub mod Columns
 pub mod Agree

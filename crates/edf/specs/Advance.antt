@@ -96,9 +96,6 @@ module _ (τ : TaskSet) (ok : Lawful τ) (s s′ : State) (k m : ℕ) (st : Run 
       (λ p. omega (arith, run-less d p, al d (sub d v) (omega arith)))
       (λ p. free-slack τ ok fe s′ d (λ i l w. omega (arith, run-due i l w, head i l (run-waits i l w))) h)
 
-  pub run-all : Feasible τ → Head τ s k → AllSlack τ s → AllSlack τ s′
-  run-all fe head al d h = run-head fe head (λ d. Unit {0}) (λ d. Unit {0}) (λ d u. u) (λ d u. al d) d tt h
-
 module _ (τ : TaskSet) (ok : Lawful τ) (s s′ : State) (m : ℕ) (st : Idle τ m s s′) where
   idle-waits : (i : ℕ) → i < τ .rows → s′ .waits i ≡ true → s .waits i ≡ true
   idle-waits i l w = sym ((st .others i l) .waits) ∙ w

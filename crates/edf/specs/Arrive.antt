@@ -13,7 +13,7 @@ use Rattle.bounded.specs.Tests.{gate, gate-on, both}
 use Rattle.bounded.specs.Quotient.{ceilDiv, ceil-more}
 use Rattle.edf.specs.Jobs.{jobsBy, jobs-mono, jobs-none, jobs-first, jobs-one, jobs-ceil, jobs-room}
 use Rattle.edf.specs.Demand.{TaskSet, Lawful, rowRequest, interference}
-use Rattle.edf.specs.State.{State, soonest, pending, toCome, rowLoad, load, WellFormed, WellFormedJob, Slack, SlackOn, AllSlack, Elapsed, pending-in, pending-idle, pending-later, pending-same, soonest-le, on-le}
+use Rattle.edf.specs.State.{State, soonest, pending, toCome, rowLoad, load, WellFormed, WellFormedJob, Slack, SlackOn, Elapsed, pending-in, pending-idle, pending-later, pending-same, soonest-le, on-le}
 use Rattle.edf.specs.Steps.{Arrive}
 
 module _ (τ : TaskSet) (ok : Lawful τ) (s : State) (formed : WellFormed τ s) where
@@ -128,19 +128,8 @@ module _ (τ : TaskSet) (ok : Lawful τ) (s s′ : State) (formed : WellFormed �
       let e = st .others i l ne in
       rw (arrive-load (s′ .due i), e .due) (omega (arith, e, st .budgets i l ne, sl i l (sym (e .waits) ∙ w))))
 
-  -- so does a budget of at most V, in every state
-  pub arrive-slack : b + τ .C k + interference τ k (τ .D k) ≤ τ .D k → Slack τ s → Slack τ s′
-  arrive-slack h sl = arrive-slack-by (omega (arith, arrive-bound)) sl
-
-  -- and none, where there is time for the load by each time
-  pub arrive-slack-all : b ≡ 0 → AllSlack τ s → Slack τ s → Slack τ s′
-  arrive-slack-all z al sl = arrive-slack-by (omega (arith, al (s .clock + τ .D k) (omega arith))) sl
-
   pub arrive-on : (W W′ : ℕ → Type 0) → ((d : ℕ) → W′ d → W d) → SlackOn τ s W → SlackOn τ s′ W′
   arrive-on = on-le τ ok s s′ (st .clock) (λ d. le-of-eq (arrive-load d))
-
-  pub arrive-all : AllSlack τ s → AllSlack τ s′
-  arrive-all al d h = omega (arith, arrive-load d, al d (omega arith))
 
   pub arrive-elapsed : Elapsed τ s → Elapsed τ s′
   arrive-elapsed el i l w =

@@ -39,9 +39,6 @@ module _ (τ : TaskSet) (ok : Lawful τ) (s s′ : State) (k : ℕ) (st : Over �
   pub over-on : (W W′ : ℕ → Type 0) → ((d : ℕ) → W′ d → W d) → SlackOn τ s W → SlackOn τ s′ W′
   over-on = on-le τ ok s s′ (st .clock) over-le
 
-  pub over-all : AllSlack τ s → AllSlack τ s′
-  over-all al d h = omega (arith, over-le d, al d (omega arith))
-
   pub over-elapsed : Elapsed τ s → Elapsed τ s′
   over-elapsed el i l w = omega (arith, st .others i l (over-other i w), el i l (over-waits i l w))
 

@@ -1,90 +1,99 @@
--- Every state that a loose or a tight scheduler's steps lead to has what makes every deadline met. Assumes nothing.
+-- Every state that a scheduler's steps lead to has what makes every deadline met, whichever rows are brittle
+-- (docs/SPECIFICATION.md §3.1): none in a loose table, each in a tight one, some in a mixed one. Assumes nothing.
 use Prim.Native.Nat.{ℕ, _+_, _≤_, _<_}
-use mathlib.Core.Path.{_≡_, refl}
-use mathlib.Core.Bool.{false}
+use mathlib.Core.Path.{_≡_, sym, _∙_}
+use mathlib.Core.Bool.{Bool, true, false, true≢false}
+use mathlib.Core.Logic.{_⊎_, inl, inr}
+use native.Mathlib.Omega.{arith}
+use Rattle.bounded.specs.Tests.{both}
 use Rattle.edf.specs.Demand.{TaskSet, Lawful, Feasible, interference}
-use Rattle.edf.specs.State.{State, WellFormed, Slack, AllSlack, Elapsed, Head}
+use Rattle.edf.specs.State.{State, soonest, WellFormed, Elapsed, Head}
 use Rattle.edf.specs.Steps.{Arrive, Run, Idle, Finish, Start}
-use Rattle.edf.specs.Arrive.{arrive-formed, arrive-slack, arrive-slack-all, arrive-all, arrive-elapsed}
-use Rattle.edf.specs.Advance.{run-formed, run-slack, run-all, run-elapsed, idle-formed, idle-slack, idle-all, idle-elapsed}
-use Rattle.edf.specs.Finish.{over-formed, over-all, over-elapsed, finish-slack, start-formed, start-slack, start-elapsed, start-all}
+use Rattle.edf.specs.Arrive.{arrive-formed, arrive-elapsed}
+use Rattle.edf.specs.Advance.{run-formed, run-elapsed, idle-formed, idle-slack, idle-elapsed}
+use Rattle.edf.specs.Finish.{over-formed, over-elapsed, start-formed, start-elapsed}
+use Rattle.edf.specs.Mixed.{MixedSlack, mixed-arrive, mixed-arrive-brittle, mixed-run-head, mixed-run-near, mixed-idle, mixed-finish, mixed-start}
 
--- ---- loose (docs/SPECIFICATION.md §3.1): each job arrives with a budget of at most V, any waiting job may run, or none,
--- as long as the budgets allow, and a job that is over early may give what it leaves unused to later ones
-
-pub record Safe (τ : TaskSet) (s : State) : Type 0 where
+pub record Safe (τ : TaskSet) (brittle : ℕ → Bool) (s : State) : Type 0 where
   pub formed : WellFormed τ s
-  pub slack : Slack τ s
+  pub slack : MixedSlack τ brittle s
   pub elapsed : Elapsed τ s
 
-pub data Step (τ : TaskSet) (s s′ : State) : Type 0 where
-  arrived : (k b : ℕ) → Arrive τ k b s s′ → b + τ .C k + interference τ k (τ .D k) ≤ τ .D k → Step τ s s′
-  ran : (k m : ℕ) → Run τ k m s s′ → Step τ s s′
-  idled : (m : ℕ) → Idle τ m s s′ → Step τ s s′
-  finished : (k : ℕ) → Finish τ k s s′ → Step τ s s′
+-- row k's job is due no later than the next job of any brittle row can be
+abbrev pub Near : TaskSet → (ℕ → Bool) → State → ℕ → Type 0
+Near τ brittle s k = (j : ℕ) → j < τ .rows → brittle j ≡ true → s .due k ≤ soonest s j + τ .D j
 
-pub safe-start : (τ : TaskSet) → Lawful τ → (s : State) → Start τ s → Safe τ s
-safe-start τ ok s st =
-    record { formed = start-formed τ ok s st; slack = start-slack τ ok s st; elapsed = start-elapsed τ ok s st }
+-- row k's job may run: it is a head, or near
+abbrev pub MayRun : TaskSet → (ℕ → Bool) → State → ℕ → Type 0
+MayRun τ brittle s k = Head τ s k ⊎ Near τ brittle s k
 
-pub safe-step : (τ : TaskSet) → Lawful τ → (s s′ : State) → Safe τ s → Step τ s s′ → Safe τ s′
-safe-step τ ok s s′ v (arrived k b st h) = record {
-  formed = arrive-formed τ ok s s′ (v .formed) k b st;
-  slack = arrive-slack τ ok s s′ (v .formed) k b st h (v .slack);
-  elapsed = arrive-elapsed τ ok s s′ (v .formed) k b st (v .elapsed);
-}
-safe-step τ ok s s′ v (ran k m st) = record {
-  formed = run-formed τ ok s s′ k m st (v .formed) (v .slack);
-  slack = run-slack τ ok s s′ k m st (v .slack);
-  elapsed = run-elapsed τ ok s s′ k m st (v .elapsed);
-}
-safe-step τ ok s s′ v (idled m st) = record {
-  formed = idle-formed τ ok s s′ m st (v .formed) (v .slack);
-  slack = idle-slack τ ok s s′ m st (v .slack);
-  elapsed = idle-elapsed τ ok s s′ m st (v .elapsed);
-}
-safe-step τ ok s s′ v (finished k f) = record {
-  formed = over-formed τ ok s s′ k (f .over) (v .formed);
-  slack = finish-slack τ ok s s′ k f (v .slack);
-  elapsed = over-elapsed τ ok s s′ k (f .over) (v .elapsed);
-}
+-- nothing may run: no job waits, or no row is brittle
+abbrev pub MayIdle : TaskSet → (ℕ → Bool) → State → Type 0
+MayIdle τ brittle s = ((i : ℕ) → i < τ .rows → s .waits i ≡ false) ⊎ ((i : ℕ) → i < τ .rows → brittle i ≡ false)
 
--- ---- tight (§3.1): the demand is never above t, each job arrives with no budget, a head runs, and nothing runs only
--- while no job waits (the earliest deadline first)
+-- a job arrives with a budget of at most V, one of a brittle row with none; a job runs, or none, as the two above say and as
+-- long as the budgets allow; and a job that is over early may give what it leaves unused to later ones
+pub data Step (τ : TaskSet) (brittle : ℕ → Bool) (s s′ : State) : Type 0 where
+  arrived : (k b : ℕ) → Arrive τ k b s s′ → (brittle k ≡ true → b ≡ 0)
+      → (brittle k ≡ false → b + τ .C k + interference τ k (τ .D k) ≤ τ .D k) → Step τ brittle s s′
+  ran : (k m : ℕ) → Run τ k m s s′ → MayRun τ brittle s k → Step τ brittle s s′
+  idled : (m : ℕ) → Idle τ m s s′ → MayIdle τ brittle s → Step τ brittle s s′
+  finished : (k : ℕ) → Finish τ k s s′ → Step τ brittle s s′
 
-pub record SafeTight (τ : TaskSet) (s : State) : Type 0 where
-  pub formed : WellFormed τ s
-  pub slack : Slack τ s
-  pub all : AllSlack τ s
+pub safe-start : (τ : TaskSet) → Lawful τ → Feasible τ → (brittle : ℕ → Bool) (s : State) → Start τ s → Safe τ brittle s
+safe-start τ ok fe brittle s st =
+    record { formed = start-formed τ ok s st; slack = mixed-start τ ok brittle s st fe; elapsed = start-elapsed τ ok s st }
 
-pub data Earliest (τ : TaskSet) (s s′ : State) : Type 0 where
-  arrived : (k : ℕ) → Arrive τ k 0 s s′ → Earliest τ s s′
-  ran : (k m : ℕ) → Run τ k m s s′ → Head τ s k → Earliest τ s s′
-  idled : (m : ℕ) → Idle τ m s s′ → ((i : ℕ) → i < τ .rows → s .waits i ≡ false) → Earliest τ s s′
-  finished : (k : ℕ) → Finish τ k s s′ → Earliest τ s s′
+module _ (τ : TaskSet) (ok : Lawful τ) (fe : Feasible τ) (brittle : ℕ → Bool) (s s′ : State) (v : Safe τ brittle s) where
+  arrive-mixed : (k b : ℕ) → Arrive τ k b s s′ → (brittle k ≡ true → b ≡ 0)
+      → (brittle k ≡ false → b + τ .C k + interference τ k (τ .D k) ≤ τ .D k) → MixedSlack τ brittle s′
+  arrive-mixed k b st none most =
+      both (brittle k) (λ e. mixed-arrive-brittle τ ok brittle s s′ (v .formed) k b st e (none e) (v .slack))
+      (λ e. mixed-arrive τ ok brittle s s′ (v .formed) k b st (most e) (v .slack))
 
-pub earliest-start : (τ : TaskSet) → Lawful τ → Feasible τ → (s : State) → Start τ s → SafeTight τ s
-earliest-start τ ok fe s st =
-    record { formed = start-formed τ ok s st; slack = start-slack τ ok s st; all = start-all τ ok s st fe }
+  run-mixed : (k m : ℕ) → Run τ k m s s′ → MayRun τ brittle s k → MixedSlack τ brittle s′
+  run-mixed k m st (inl head) = mixed-run-head τ ok brittle s s′ k m st fe head (v .slack)
+  run-mixed k m st (inr near) = mixed-run-near τ ok brittle s s′ k m st near (v .slack)
 
-pub earliest-step : (τ : TaskSet) → Lawful τ → Feasible τ → (s s′ : State) → SafeTight τ s → Earliest τ s s′ → SafeTight τ s′
-earliest-step τ ok fe s s′ v (Earliest.arrived k st) = record {
-  formed = arrive-formed τ ok s s′ (v .formed) k 0 st;
-  slack = arrive-slack-all τ ok s s′ (v .formed) k 0 st refl (v .all) (v .slack);
-  all = arrive-all τ ok s s′ (v .formed) k 0 st (v .all);
-}
-earliest-step τ ok fe s s′ v (Earliest.ran k m st head) = record {
-  formed = run-formed τ ok s s′ k m st (v .formed) (v .slack);
-  slack = run-slack τ ok s s′ k m st (v .slack);
-  all = run-all τ ok s s′ k m st fe head (v .all);
-}
-earliest-step τ ok fe s s′ v (Earliest.idled m st none) = record {
-  formed = idle-formed τ ok s s′ m st (v .formed) (v .slack);
-  slack = idle-slack τ ok s s′ m st (v .slack);
-  all = idle-all τ ok s s′ m st fe none;
-}
-earliest-step τ ok fe s s′ v (Earliest.finished k f) = record {
-  formed = over-formed τ ok s s′ k (f .over) (v .formed);
-  slack = finish-slack τ ok s s′ k f (v .slack);
-  all = over-all τ ok s s′ k (f .over) (v .all);
-}
+  -- where no row is brittle, no deadline is watched
+  idle-mixed : (m : ℕ) → Idle τ m s s′ → MayIdle τ brittle s → MixedSlack τ brittle s′
+  idle-mixed m st (inl none) = mixed-idle τ ok brittle s s′ m st fe none (v .slack)
+  idle-mixed m st (inr firm) = record {
+    slack = idle-slack τ ok s s′ m st (v .slack .slack);
+    watched = λ d w. absurd (true≢false (sym (w .marked) ∙ firm (w .row) (w .known)));
+  }
+
+  pub safe-step : Step τ brittle s s′ → Safe τ brittle s′
+  safe-step (arrived k b st none most) = record {
+    formed = arrive-formed τ ok s s′ (v .formed) k b st;
+    slack = arrive-mixed k b st none most;
+    elapsed = arrive-elapsed τ ok s s′ (v .formed) k b st (v .elapsed);
+  }
+  safe-step (ran k m st may) = record {
+    formed = run-formed τ ok s s′ k m st (v .formed) (v .slack .slack);
+    slack = run-mixed k m st may;
+    elapsed = run-elapsed τ ok s s′ k m st (v .elapsed);
+  }
+  safe-step (idled m st may) = record {
+    formed = idle-formed τ ok s s′ m st (v .formed) (v .slack .slack);
+    slack = idle-mixed m st may;
+    elapsed = idle-elapsed τ ok s s′ m st (v .elapsed);
+  }
+  safe-step (finished k f) = record {
+    formed = over-formed τ ok s s′ k (f .over) (v .formed);
+    slack = mixed-finish τ ok brittle s s′ k f (v .slack);
+    elapsed = over-elapsed τ ok s s′ k (f .over) (v .elapsed);
+  }
+
+-- ---- what may run still may after some time: no job arrives meanwhile, so a head stays one, and no brittle row's next
+-- deadline comes nearer
+
+module _ (τ : TaskSet) (brittle : ℕ → Bool) (s s′ : State) (later : (i : ℕ) → i < τ .rows → soonest s i ≤ soonest s′ i)
+    (same : (i : ℕ) → i < τ .rows → s′ .waits i ≡ true → (s .waits i ≡ true) × (s′ .due i ≡ s .due i)) where
+  pub may-run-still : (k : ℕ) → k < τ .rows → s′ .waits k ≡ true → MayRun τ brittle s k → MayRun τ brittle s′ k
+  may-run-still k l w (inl head) = inl (λ i u x. omega (arith, head i u (same i u x .0), same i u x .1, same k l w .1))
+  may-run-still k l w (inr near) = inr (λ j u b. omega (arith, near j u b, later j u, same k l w .1))
+
+  pub may-idle-still : MayIdle τ brittle s → MayIdle τ brittle s′
+  may-idle-still (inl none) = inl (λ i l. both (s′ .waits i) (λ w. absurd (true≢false (sym (same i l w .0) ∙ none i l))) (λ w. w))
+  may-idle-still (inr firm) = inr firm

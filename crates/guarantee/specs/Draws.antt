@@ -10,7 +10,7 @@ use Rattle.bounded.specs.Tests.{gate}
 use Rattle.bounded.specs.Sum.{sumTo}
 use Rattle.session.specs.declared.Session.{Session}
 use Rattle.session.specs.Reading.{idle}
-use Rattle.session.specs.Order.{before, headOf, permits, candidate, candidates, position, rowWith, candidateAt}
+use Rattle.session.specs.Order.{before, headOf, candidate, idles, candidates, position, rowWith, candidateAt}
 use Rattle.session.specs.Choose.{wordEnd, drawLimit, draw, drawUsed, contested, drawn, pickOf, room, unopposed, lengthDrawn, spanOf}
 
 -- ---- a draw between n
@@ -77,7 +77,7 @@ candidateRows s = sumTo (λ i. gate (candidate s i) 1) (s .count)
 -- all the rows (§5.4, Candidate)
 pub data Numbered (s : Session) (k : ℕ) : ℕ → Type 0 where
   row : (r : ℕ) → r < s .count → candidate s r ≡ true → position s r ≡ k → Numbered s k r
-  last : permits s idle ≡ true → k ≡ candidateRows s → Numbered s k idle
+  last : idles s ≡ true → k ≡ candidateRows s → Numbered s k idle
 
 -- the candidates, n in all, are numbered 0 to n - 1
 pub record Numbering (s : Session) : Type 0 where

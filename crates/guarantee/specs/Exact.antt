@@ -16,7 +16,7 @@ use Rattle.bounded.specs.Least.{least-high, least-at, least-before}
 use Rattle.table.specs.Rows.{horizon}
 use Rattle.session.specs.declared.Session.{Session}
 use Rattle.session.specs.Reading.{idle, jobAt, tasks, waits}
-use Rattle.session.specs.Order.{before, isHead, headOf, permits, candidate, candidates, position, rowWith, candidateAt}
+use Rattle.session.specs.Order.{before, isHead, headOf, candidate, idles, candidates, position, rowWith, candidateAt}
 use Rattle.session.specs.Before.{before-self, before-trans, before-or}
 use Rattle.session.specs.First.{is-head, head-waits}
 use Rattle.session.specs.Choose.{draw, contested, drawn, pickOf, room}
@@ -219,14 +219,14 @@ module _ (s : Session) where
       let w = row-with k r in
       simp (lt-ltb (rowWith s k) (s .count) r) (row (rowWith s k) r (w .0) (w .1)))
       (λ l.
-      let p : permits s idle ≡ true = gate-some (permits s idle) (omega arith) in
+      let p : idles s ≡ true = gate-some (idles s) (omega arith) in
       simp (le-ltb (rowWith s k) (s .count) (omega (arith, row-none k (omega arith))), p)
-      (last p (omega (arith, gate-le (permits s idle) 1))))
+      (last p (omega (arith, gate-le (idles s) 1))))
 
   candidate-most : {k c : ℕ} → Numbered s k c → k < candidates s
   unfolding candidates
   candidate-most (row r l c p) = omega (arith, candidate-below r l c)
-  candidate-most (last p e) = omega (arith, gate-on (permits s idle) 1 p)
+  candidate-most (last p e) = omega (arith, gate-on (idles s) 1 p)
 
   candidate-one : {k c d : ℕ} → Numbered s k c → Numbered s k d → c ≡ d
   candidate-one (row i u a p) (row j v b q) = candidate-apart i j u v a b (p ∙ sym q)
@@ -288,7 +288,7 @@ row-room s c ne = simp (ne-eqb c idle ne) at (room-lesser s c)
 
 waiting-small : (s : Session) → Facts s → (i : ℕ) → i < s .count → waits s i ≡ true → jobAt s i .budget < horizon
 waiting-small s f i l w =
-    omega (arith, f .job i l w, most-le (tasks s) (s .kind) i, facts-deadline s f i)
+    omega (arith, f .job i l w, most-le (tasks s) i, facts-deadline s f i)
 
 pub idle-room : (s : Session) → Facts s → (j : ℕ) → j < s .count → waits s j ≡ true → IdleRoom s
 idle-room s f j l w =

@@ -6,28 +6,21 @@ use mathlib.Core.List.{List}
 use native.Mathlib.Omega.{arith}
 use lib.ListN.{length}
 use Rattle.edf.specs.Demand.{TaskSet, Feasible}
-use Rattle.edf.specs.State.{State, WellFormed, Slack}
-use Rattle.edf.specs.Safe.{Safe, SafeTight}
+use Rattle.edf.specs.State.{State}
+use Rattle.edf.specs.Safe.{Safe, MayRun, MayIdle}
 use Rattle.table.specs.Rows.{tasksOf, Fit}
+use Rattle.table.specs.Budgets.{brittle}
 use Rattle.session.specs.declared.Session.{Session}
-use Rattle.session.specs.Reading.{rowsOf, stateOf}
+use Rattle.session.specs.Reading.{idle, rowsOf, stateOf}
 use Rattle.session.specs.Sound.{sound}
 
--- the invariant of the theory, for the kind that the session names
-pub data SafeAs (τ : TaskSet) (s : State) : ℕ → Type 0 where
-  asLoose : Safe τ s → SafeAs τ s 1
-  asTight : SafeTight τ s → SafeAs τ s 2
+-- c, a row or idle, may run with every deadline kept
+pub record Apt (τ : TaskSet) (s : State) (c : ℕ) : Type 0 where
+  pub row : ¬ (c ≡ idle) → MayRun τ (brittle τ) s c
+  pub rest : c ≡ idle → MayIdle τ (brittle τ) s
 
--- what the two have in common
-pub as-formed : {τ : TaskSet} {s : State} {k : ℕ} → SafeAs τ s k → WellFormed τ s
-as-formed (asLoose v) = v .formed
-as-formed (asTight v) = v .formed
-
-pub as-slack : {τ : TaskSet} {s : State} {k : ℕ} → SafeAs τ s k → Slack τ s
-as-slack (asLoose v) = v .slack
-as-slack (asTight v) = v .slack
-
--- s is a session of the admitted table l: it holds l's rows, is sound, and no deadline can be lost from it
+-- s is a session of the admitted table l: it holds l's rows, is sound, no deadline can be lost from it, and the choice in
+-- force, if there is one, loses none. (Soundness does not say so: a forged session may have another choice in force.)
 pub record Good (l : List ℕ) (s : Session) : Type 0 where
   pub fit : Fit (tasksOf l)
   pub feasible : Feasible (tasksOf l)
@@ -35,7 +28,8 @@ pub record Good (l : List ℕ) (s : Session) : Type 0 where
   pub count : s .count ≡ tasksOf l .rows
   pub places : length (s .jobs) ≡ 16
   pub sound : sound s ≡ true
-  pub safe : SafeAs (tasksOf l) (stateOf s) (s .kind)
+  pub safe : Safe (tasksOf l) (brittle (tasksOf l)) (stateOf s)
+  pub apt : 1 ≤ s .span → Apt (tasksOf l) (stateOf s) (s .chosen)
 
 module _ {l : List ℕ} {s : Session} (good : Good l s) where
   -- every row has its place among the jobs

@@ -1,26 +1,26 @@
 -- An advance keeps a session good (docs/SPECIFICATION.md §5.5). Assumes nothing.
 use Prim.Native.Nat.{ℕ, _+_, _-_, _≤_, _<_}
 use mathlib.Core.Path.{_≡_, refl, sym, ap, _∙_}
-use mathlib.Core.Bool.{true, false, cond}
+use mathlib.Core.Bool.{true, cond}
 use mathlib.Core.Logic.{dite, _⊎_, inl, inr, ⊎-elim}
 use native.Mathlib.Omega.{arith}
-use native.Mathlib.Decide.{decLt, ℕ-discrete}
+use native.Mathlib.Decide.{ℕ-discrete}
 use lib.Dec.{ltb, eqb}
 use borrow.Author.Tests.{eqb-true, eqb-false, ltb-true, lt-ltb}
 use Rattle.bounded.specs.Tests.{both}
-use Rattle.edf.specs.State.{Same, Head}
+use Rattle.edf.specs.State.{Same, soonest}
 use Rattle.edf.specs.Steps.{Run, Idle}
-use Rattle.edf.specs.Safe.{Step, Earliest}
+use Rattle.edf.specs.Safe.{Safe, Step, may-run-still, may-idle-still}
+use Rattle.table.specs.Budgets.{brittle}
 use Rattle.session.specs.declared.Session.{Session}
 use Rattle.session.specs.Reading.{idle, clockEnd, jobAt, rowsOf, tasks, waits, ahead, stateOf}
 use Rattle.session.specs.Calls.{changed, jobsWith, agedJob}
 use Rattle.session.specs.Jobs.{jobs-length}
 use Rattle.session.specs.Facts.{Running, Choice}
-use Rattle.guarantee.specs.Good.{SafeAs, Good, good-places, in-session}
-use Rattle.guarantee.specs.KeepsTable.{most-tight}
+use Rattle.guarantee.specs.Good.{Apt, Good, good-places, in-session}
 use Rattle.guarantee.specs.KeepsChoice.{ahead-waits, ahead-earlier, earlier-ahead, idle-ahead, later-not}
 use Rattle.guarantee.specs.KeepsJobs.{Passed, Worked, rest-same, rest-bounds, aged-passed, aged-worked}
-use Rattle.guarantee.specs.KeepsStep.{as-step, Bounds, good-facts, good-bounds, good-changed}
+use Rattle.guarantee.specs.KeepsStep.{Bounds, good-facts, good-step, good-bounds, good-changed}
 
 -- ---- n ticks of a choice in force
 
@@ -41,16 +41,8 @@ module _ (s : Session) (g : Good (rowsOf s) s) (ch : Choice s) (n : ℕ) (within
   pays : (i : ℕ) → i < s .count → ¬ (i ≡ s .chosen) → ahead s (s .chosen) i ≡ true → jobAt after i .budget + n ≡ jobAt s i .budget
   pays i l ne a = omega (arith, passed i l ne .changes a, ch .affords i l a)
 
-  -- in a tight session no job has any, so none loses budget
-  tight-none : s .kind ≡ 2 → (i : ℕ) → i < s .count → ahead s (s .chosen) i ≡ true → ⊥
-  tight-none k i l a =
-      omega (
-        arith,
-        ch .some,
-        ch .affords i l a,
-        good-bounds s g i l .budget (ahead-waits s (s .chosen) i a),
-        most-tight (tasks s) (s .kind) k i,
-      )
+  apt : Apt (tasks s) (stateOf s) (s .chosen)
+  apt = g .apt (ch .some)
 
   -- ---- a row runs
 
@@ -73,15 +65,8 @@ module _ (s : Session) (g : Good (rowsOf s) s) (ch : Choice s) (n : ℕ) (within
           (later-not s (s .chosen) i (λ e. omega (arith, r .known, good-facts s g .few)) h);
     }
 
-    tight-head : s .kind ≡ 2 → Head (tasks s) (stateOf s) (s .chosen)
-    tight-head k i l w =
-        dite (decLt (jobAt s i .due) (jobAt s (s .chosen) .due))
-        (λ h. absurd (tight-none k i (in-session g i l) (earlier-ahead s (s .chosen) i w h))) (λ h. omega arith)
-
-    run-safe : SafeAs (tasks s) (stateOf after) (s .kind)
-    run-safe =
-        as-step (tasks s) (g .fit) (g .feasible) (stateOf s) (stateOf after) (g .safe)
-        (λ e. Step.ran (s .chosen) n run-step) (λ e. Earliest.ran (s .chosen) n run-step (tight-head e))
+    run-safe : Safe (tasks s) (brittle (tasks s)) (stateOf after)
+    run-safe = good-step s g (stateOf after) (Step.ran (s .chosen) n run-step (apt .row (λ e. omega (arith, r .known, good-facts s g .few))))
 
   -- ---- nothing runs
 
@@ -96,14 +81,8 @@ module _ (s : Session) (g : Good (rowsOf s) s) (ch : Choice s) (n : ℕ) (within
       budgets = λ i l w. pays i (in-session g i l) (other i (in-session g i l)) (idle-ahead s (s .chosen) i none w);
     }
 
-    tight-idle : s .kind ≡ 2 → (i : ℕ) → i < tasks s .rows → waits s i ≡ false
-    tight-idle k i l =
-        both (waits s i) (λ w. absurd (tight-none k i (in-session g i l) (idle-ahead s (s .chosen) i none w))) (λ w. w)
-
-    idle-safe : SafeAs (tasks s) (stateOf after) (s .kind)
-    idle-safe =
-        as-step (tasks s) (g .fit) (g .feasible) (stateOf s) (stateOf after) (g .safe)
-        (λ e. Step.idled n idle-step) (λ e. Earliest.idled n idle-step (tight-idle e))
+    idle-safe : Safe (tasks s) (brittle (tasks s)) (stateOf after)
+    idle-safe = good-step s g (stateOf after) (Step.idled n idle-step (apt .rest none))
 
   -- ---- soundness
 
@@ -121,12 +100,38 @@ module _ (s : Session) (g : Good (rowsOf s) s) (ch : Choice s) (n : ℕ) (within
             let k = ltb-true 0 (jobAt after i .left) h in
             omega (arith, w .budget k, f .budget (lt-ltb 0 (jobAt s i .left) (omega (arith, w .left))));
       })
-      (λ ne. rest-bounds (tasks s) s after i (passed i l ne) (omega arith) refl (λ a w. omega (arith, f .budget w)) f)
+      (λ ne. rest-bounds (tasks s) s after i (passed i l ne) (omega arith) (λ a w. omega (arith, f .budget w)) f)
 
-  advance-good : s .clock + n ≤ clockEnd → (s .span - n ≡ 0) ⊎ Choice after → Good (rowsOf s) after
-  advance-good end choice =
+  -- ---- what may run still may: no job begins to wait, and no row's next job can come sooner
+
+  waited : (i : ℕ) → i < tasks s .rows → waits after i ≡ true → (waits s i ≡ true) × (jobAt after i .due ≡ jobAt s i .due)
+  unfolding waits
+  waited i l w =
+      let u = in-session g i l in
+      let k = ltb-true 0 (jobAt after i .left) w in
+      dite (ℕ-discrete i (s .chosen))
+      (λ e. let x = worked i u e in (lt-ltb 0 (jobAt s i .left) (omega (arith, x .left)), x .due k))
+      (λ ne. let x = same i u ne in (sym (x .waits) ∙ w, x .due))
+
+  later-soonest : (i : ℕ) → i < tasks s .rows → soonest (stateOf s) i ≤ soonest (stateOf after) i
+  later-soonest i l =
+      let u = in-session g i l in
+      dite (ℕ-discrete i (s .chosen)) (λ e. omega (arith, worked i u e .next)) (λ ne. omega (arith, same i u ne .next))
+
+  apt-still : (Running s → waits after (s .chosen) ≡ true) → Apt (tasks s) (stateOf after) (s .chosen)
+  apt-still on = record {
+    row = λ ne. ⊎-elim (λ z. absurd (ne z))
+        (λ (r : Running s).
+        may-run-still (tasks s) (brittle (tasks s)) (stateOf s) (stateOf after) later-soonest waited (s .chosen)
+        (omega (arith, r .known, g .count)) (on r) (apt .row ne))
+        (ch .runs);
+    rest = λ z. may-idle-still (tasks s) (brittle (tasks s)) (stateOf s) (stateOf after) later-soonest waited (apt .rest z);
+  }
+
+  advance-good : s .clock + n ≤ clockEnd → (1 ≤ s .span - n → Apt (tasks s) (stateOf after) c) → (s .span - n ≡ 0) ⊎ Choice after → Good (rowsOf s) after
+  advance-good end apt choice =
       good-changed s g (s .clock + n) (jobsWith s (agedJob s n) (s .count)) c (s .span - n)
-      (jobs-length s (agedJob s n) (s .count) ∙ g .places) end (⊎-elim idle-safe run-safe (ch .runs)) bounds choice
+      (jobs-length s (agedJob s n) (s .count) ∙ g .places) end (⊎-elim idle-safe run-safe (ch .runs)) apt bounds choice
 
 -- ---- the choice, where its span is not used up
 
@@ -140,16 +145,13 @@ module _ (s : Session) (g : Good (rowsOf s) s) (ch : Choice s) (n : ℕ) (more :
   rest : (i : ℕ) → i < s .count → ¬ (i ≡ s .chosen) → Same (stateOf s) (stateOf later) i
   rest = same s g ch n (omega arith) (s .chosen)
 
-  runs-still : (s .chosen ≡ idle) ⊎ Running s → (s .chosen ≡ idle) ⊎ Running later
+  waits-still : Running s → waits later (s .chosen) ≡ true
   unfolding waits
+  waits-still r = lt-ltb 0 (jobAt later (s .chosen) .left) (omega (arith, ran r .left, r .within))
+
+  runs-still : (s .chosen ≡ idle) ⊎ Running s → (s .chosen ≡ idle) ⊎ Running later
   runs-still (inl e) = inl e
-  runs-still (inr r) =
-      let w = ran r in
-      inr (record {
-        known = r .known;
-        waiting = lt-ltb 0 (jobAt later (s .chosen) .left) (omega (arith, w .left, r .within));
-        within = omega (arith, w .left, r .within);
-      })
+  runs-still (inr r) = inr (record { known = r .known; waiting = waits-still r; within = omega (arith, ran r .left, r .within) })
 
   -- a job that loses budget from now on is not the chosen one, and has lost budget so far
   ahead-still : (s .chosen ≡ idle) ⊎ Running s → (j : ℕ) → j < s .count → ahead later (s .chosen) j ≡ true
@@ -179,7 +181,10 @@ pub good-advance : (s : Session) → Good (rowsOf s) s → Choice s → (n : ℕ
     → Good (rowsOf s) (changed s (s .clock + n) (jobsWith s (agedJob s n) (s .count)) (cond (eqb (s .span) n) 0 (s .chosen)) (s .span - n))
 good-advance s g ch n high end =
     both (eqb (s .span) n)
-    (λ e. let u = eqb-true (s .span) n e in simp e (advance-good s g ch n high 0 end (inl (omega arith))))
+    (λ e. let u = eqb-true (s .span) n e in simp e (advance-good s g ch n high 0 end (λ l. absurd (omega arith)) (inl (omega arith))))
     (λ e.
     let u = eqb-false (s .span) n e in
-    simp e (advance-good s g ch n high (s .chosen) end (inr (choice-still s g ch n (omega arith)))))
+    let more : n < s .span = omega arith in
+    simp e
+    (advance-good s g ch n high (s .chosen) end (λ l. apt-still s g ch n high (s .chosen) (waits-still s g ch n more))
+    (inr (choice-still s g ch n more))))

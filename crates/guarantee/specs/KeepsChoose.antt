@@ -10,13 +10,15 @@ use borrow.Author.Tests.{eq-eqb, ne-eqb, ltb-true}
 use Rattle.bounded.specs.Tests.{both, and-true}
 use Rattle.table.specs.Rows.{horizon}
 use Rattle.session.specs.declared.Session.{Session}
-use Rattle.session.specs.Reading.{idle, jobAt, rowsOf, tasks, waits, ahead}
+use Rattle.session.specs.Reading.{idle, jobAt, rowsOf, tasks, waits, ahead, stateOf}
 use Rattle.session.specs.Choose.{draw, pickOf, pickUsed, room, unopposed, lengthDrawn, spanOf}
 use Rattle.session.specs.Calls.{changed}
 use Rattle.session.specs.Facts.{Running}
-use Rattle.guarantee.specs.Good.{Good}
+use Rattle.session.specs.Brittle.{loose-rows}
+use Rattle.guarantee.specs.Good.{Apt, Good}
 use Rattle.guarantee.specs.KeepsStep.{good-facts, good-bounds, good-changed}
 use Rattle.guarantee.specs.KeepsPick.{May, pick-may}
+use Rattle.guarantee.specs.KeepsApt.{pick-apt}
 use Rattle.guarantee.specs.Room.{most, room-lesser, may-room}
 
 -- the span is between 1 and room
@@ -68,14 +70,16 @@ module _ (s : Session) (g : Good (rowsOf s) s) (c : ℕ) (may : May s c 1) where
       }
 
 -- the jobs and the clock stay
-choose-good : (s : Session) → Good (rowsOf s) s → (c n : ℕ) → May s c n → Good (rowsOf s) (changed s (s .clock) (s .jobs) c n)
+choose-good : (s : Session) → Good (rowsOf s) s → (c n : ℕ) → Apt (tasks s) (stateOf s) c → May s c n
+    → Good (rowsOf s) (changed s (s .clock) (s .jobs) c n)
 unfolding waits
-choose-good s g c n may =
-    good-changed s g (s .clock) (s .jobs) c n (g .places) (good-facts s g .clock) (g .safe)
+choose-good s g c n apt may =
+    good-changed s g (s .clock) (s .jobs) c n (g .places) (good-facts s g .clock) (g .safe) (λ l. apt)
     (λ i l. let b = good-bounds s g i l in record { next = b .next; budget = b .budget })
     (inr may)
 
 pub good-choose : (s : Session) → Good (rowsOf s) s → (w : List ℕ)
     → Good (rowsOf s) (changed s (s .clock) (s .jobs) (pickOf s w) (spanOf s w (pickUsed s w) (pickOf s w)))
 good-choose s g w =
-    choose-good s g (pickOf s w) _ (span-may s g (pickOf s w) (pick-may s (good-facts s g .few) w) w (pickUsed s w))
+    choose-good s g (pickOf s w) _ (pick-apt s (good-facts s g .few) (g .count) (loose-rows s (good-facts s g)) w)
+    (span-may s g (pickOf s w) (pick-may s (good-facts s g .few) w) w (pickUsed s w))

@@ -11,7 +11,9 @@ use lib.Seq.{getD-take, ext-getD}
 use borrow.Author.Tests.{eq-eqb}
 use Rattle.bounded.specs.Fold.{put-length, put-at}
 use Rattle.edf.specs.Steps.{Start}
-use Rattle.table.specs.Rows.{tasksOf, Fit}
+use Rattle.edf.specs.Safe.{safe-start}
+use Rattle.table.specs.Rows.{tasksOf, Fit, fit-lawful}
+use Rattle.table.specs.Budgets.{brittle}
 use Rattle.table.specs.Verdict.{Answer, badLength, answerOf}
 use Rattle.table.specs.Assess.{good-length}
 use Rattle.table.specs.Theorems.{answer-fit, admitted-fits}
@@ -21,8 +23,7 @@ use Rattle.session.specs.Reading.{noJob, jobAt, rowsOf, waits, stateOf}
 use Rattle.session.specs.Admit.{wordsTo, freshOf, sessionOf}
 use Rattle.session.specs.Facts.{Facts, sound-of}
 use Rattle.guarantee.specs.Good.{Good}
-use Rattle.guarantee.specs.KeepsTable.{answer-length, answer-kind}
-use Rattle.guarantee.specs.KeepsStep.{as-start}
+use Rattle.guarantee.specs.KeepsTable.{answer-length}
 
 -- ---- the rows
 
@@ -108,7 +109,8 @@ module _ (l : List ℕ) (e : answerOf l .number ≡ 0) where
     count = refl;
     places = length-replicate 16 noJob;
     sound = sound-of fresh fresh-facts;
-    safe = as-start (tasksOf l) fit (admitted-fits l e) (stateOf fresh) (answerOf l .first) (answer-kind l e) fresh-start;
+    safe = safe-start (tasksOf l) (fit-lawful (tasksOf l) fit) (admitted-fits l e) (brittle (tasksOf l)) (stateOf fresh) fresh-start;
+    apt = λ n. absurd (omega arith);
   }
 
 pub good-fresh : (l : List ℕ) → answerOf l .number ≡ 0 → Good l (sessionOf l)

@@ -43,15 +43,15 @@ rest-same s s′ i r = record { next = r .next; due = r .due; left = r .left; wa
 
 -- and it stays within its bounds, where x does
 pub rest-bounds : (τ : TaskSet) (s s′ : Session) (i : ℕ) {b : Bool} {x : ℕ} → Budgeted b x (jobAt s i) (jobAt s′ i)
-    → s .clock ≤ s′ .clock → s′ .kind ≡ s .kind → (b ≡ true → waits s i ≡ true → x ≤ mostBudget (s .kind) τ i)
+    → s .clock ≤ s′ .clock → (b ≡ true → waits s i ≡ true → x ≤ mostBudget τ i)
     → Bounds τ s i → Bounds τ s′ i
-rest-bounds τ s s′ i {b} p up same most f =
+rest-bounds τ s s′ i {b} p up most f =
     let r = p .rest in
     record {
       next = omega (arith, r .next, f .next);
       budget = λ w.
           let v = sym (rest-same s s′ i r .waits) ∙ w in
-          rw same (both b (λ t. omega (arith, p .changes t, most t v)) (λ t. omega (arith, p .stays t, f .budget v)));
+          both b (λ t. omega (arith, p .changes t, most t v)) (λ t. omega (arith, p .stays t, f .budget v));
     }
 
 -- after n ticks, a is row i's job: it has lost n of budget if its deadline is before the chosen one's

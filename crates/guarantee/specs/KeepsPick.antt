@@ -6,18 +6,18 @@ use mathlib.Core.List.{List}
 use mathlib.Core.Logic.{inl, inr}
 use native.Mathlib.Omega.{arith}
 use lib.Dec.{ltb, eqb}
-use borrow.Author.Tests.{eqb-true, ltb-true, ltb-false}
+use borrow.Author.Tests.{eqb-true, ltb-true}
 use Rattle.bounded.specs.Tests.{both, and-true, so-then}
 use Rattle.bounded.specs.All.{all-at}
-use Rattle.bounded.specs.Least.{least-at}
 use Rattle.session.specs.declared.Session.{Session}
 use Rattle.session.specs.Reading.{idle, jobAt, waits, ahead}
-use Rattle.session.specs.Order.{headOf, permits, candidate, candidates, position, rowWith, candidateAt}
+use Rattle.session.specs.Order.{headOf, permits, near, candidate, idles}
 use Rattle.session.specs.First.{none-waits, head-waits, head-least}
-use Rattle.session.specs.Choose.{draw, contested, drawn, pickOf}
+use Rattle.session.specs.Choose.{pickOf}
 use Rattle.session.specs.Calls.{changed}
 use Rattle.session.specs.Facts.{Choice}
 use Rattle.guarantee.specs.KeepsChoice.{ahead-waits, ahead-earlier}
+use Rattle.guarantee.specs.Picked.{pick-case}
 
 -- c may be chosen for n ticks
 abbrev pub May : Session → ℕ → ℕ → Type 0
@@ -57,29 +57,14 @@ module _ (s : Session) (few : s .count ≤ 16) where
       let a = and-true (waits s c) _ e in
       both (eqb c (headOf s)) (λ q. rw (eqb-true c (headOf s) q) (head-may h))
       (λ q.
-      let b : (ltb 0 (jobAt s (headOf s) .budget) && permits s c) ≡ true = simp q at (a .1) in
-      row-may c l (a .0) (permits-at c (and-true (ltb 0 (jobAt s (headOf s) .budget)) _ b .1)))
+      let b : (ltb 0 (jobAt s (headOf s) .budget) && (permits s c && near s c)) ≡ true = simp q at (a .1) in
+      row-may c l (a .0) (permits-at c (and-true (permits s c) _ (and-true (ltb 0 (jobAt s (headOf s) .budget)) _ b .1) .0)))
 
-  at-may : headOf s < s .count → (k : ℕ) → May s (candidateAt s k) 1
-  unfolding candidateAt rowWith
-  at-may h k =
-      both (ltb (rowWith s k) (s .count))
-      (λ a.
-      let l = ltb-true (rowWith s k) (s .count) a in
-      let b = least-at (λ i. candidate s i && eqb (position s i) k) 0 (s .count) (omega arith) in
-      simp a (candidate-may h (rowWith s k) l (and-true (candidate s (rowWith s k)) _ b .0)))
-      (λ a. both (permits s idle) (λ b. simp (a, b) (idle-may (permits-at idle b))) (λ b. simp (a, b) (head-may h)))
-
-  drawn-head : (w : List ℕ) → drawn s w ≡ true → headOf s < s .count
-  unfolding drawn contested
-  drawn-head w e = ltb-true (headOf s) (s .count) (and-true (ltb (headOf s) (s .count)) _ (and-true (contested s) _ e .0) .0)
+  idles-permits : idles s ≡ true → permits s idle ≡ true
+  unfolding idles
+  idles-permits e = and-true (eqb (s .kind) 1) (permits s idle) e .1
 
   pub pick-may : (w : List ℕ) → May s (pickOf s w) 1
-  unfolding pickOf
-  pick-may w =
-      both (drawn s w) (λ a. simp a (at-may (drawn-head w a) (draw w (candidates s))))
-      (λ a. both (ltb (headOf s) (s .count))
-      (λ b. simp (a, b) (head-may (ltb-true (headOf s) (s .count) b)))
-      (λ b.
-      let none = none-waits s (ltb-false (headOf s) (s .count) b) in
-      simp (a, b) (idle-may (λ j l c. absurd (true≢false (sym (ahead-waits s idle j c) ∙ none j l))))))
+  pick-may =
+      pick-case s (λ c. May s c 1) head-may candidate-may (λ b. idle-may (permits-at idle (idles-permits b)))
+      (λ b. idle-may (λ j l c. absurd (true≢false (sym (ahead-waits s idle j c) ∙ none-waits s b j l))))

@@ -4,34 +4,20 @@ use Prim.Native.Nat.{ℕ, _+_, _≤_, _<_}
 use mathlib.Core.Path.{_≡_, refl, ap}
 use mathlib.Core.Bool.{true}
 use mathlib.Core.List.{List}
-use mathlib.Core.Logic.{_⊎_, inl, inr}
+use mathlib.Core.Logic.{_⊎_}
 use lib.ListN.{length}
-use Rattle.edf.specs.Demand.{TaskSet, Feasible}
+use Rattle.edf.specs.Demand.{TaskSet}
 use Rattle.edf.specs.State.{State, Same}
-use Rattle.edf.specs.Steps.{Start}
-use Rattle.edf.specs.Safe.{Step, safe-start, safe-step, Earliest, earliest-start, earliest-step}
-use Rattle.table.specs.Rows.{Fit, fit-lawful}
+use Rattle.edf.specs.Safe.{Safe, Step, safe-step}
+use Rattle.table.specs.Rows.{fit-lawful}
+use Rattle.table.specs.Budgets.{brittle}
 use Rattle.session.specs.declared.Job.{Job}
 use Rattle.session.specs.declared.Session.{Session}
 use Rattle.session.specs.Reading.{clockEnd, jobAt, rowsOf, tasks, waits, mostBudget, stateOf}
 use Rattle.session.specs.Calls.{changed}
 use Rattle.session.specs.Arrive.{waits-same}
 use Rattle.session.specs.Facts.{Choice, Facts, facts-of, sound-of}
-use Rattle.guarantee.specs.Good.{SafeAs, asLoose, asTight, as-formed, Good, in-table}
-use Rattle.guarantee.specs.KeepsTable.{Kind, answer-kind}
-
--- ---- the invariant of the theory
-
--- a fresh state has it,
-pub as-start : (τ : TaskSet) → Fit τ → Feasible τ → (s : State) (k : ℕ) → Kind τ k → Start τ s → SafeAs τ s k
-as-start τ fit fe s k (inl e) st = rw (e .0) (asLoose (safe-start τ (fit-lawful τ fit) s st))
-as-start τ fit fe s k (inr e) st = rw e (asTight (earliest-start τ (fit-lawful τ fit) fe s st))
-
--- and a step that the kind allows keeps it
-pub as-step : (τ : TaskSet) → Fit τ → Feasible τ → (s s′ : State) {k : ℕ} → SafeAs τ s k
-    → (k ≡ 1 → Step τ s s′) → (k ≡ 2 → Earliest τ s s′) → SafeAs τ s′ k
-as-step τ fit fe s s′ (asLoose v) a b = asLoose (safe-step τ (fit-lawful τ fit) s s′ v (a refl))
-as-step τ fit fe s s′ (asTight v) a b = asTight (earliest-step τ (fit-lawful τ fit) fe s s′ v (b refl))
+use Rattle.guarantee.specs.Good.{Apt, Good, in-table}
 
 -- ---- a row with the same job
 
@@ -48,25 +34,27 @@ job-same s s′ i e = record {
 -- what soundness asks of row i, besides the invariant of the theory
 pub record Bounds (τ : TaskSet) (s : Session) (i : ℕ) : Type 0 where
   pub next : jobAt s i .next ≤ s .clock + τ .T i
-  pub budget : waits s i ≡ true → jobAt s i .budget ≤ mostBudget (s .kind) τ i
+  pub budget : waits s i ≡ true → jobAt s i .budget ≤ mostBudget τ i
 
 module _ (s : Session) (g : Good (rowsOf s) s) where
   pub good-facts : Facts s
   good-facts = facts-of s (g .sound)
 
-  pub good-kind : Kind (tasks s) (s .kind)
-  good-kind = let f = good-facts in rw (f .kind) at (answer-kind (rowsOf s) (f .admitted))
+  -- a step keeps the invariant of the theory
+  pub good-step : (s′ : State) → Step (tasks s) (brittle (tasks s)) (stateOf s) s′ → Safe (tasks s) (brittle (tasks s)) s′
+  good-step s′ = safe-step (tasks s) (fit-lawful (tasks s) (g .fit)) (g .feasible) (brittle (tasks s)) (stateOf s) s′ (g .safe)
 
   pub good-bounds : (i : ℕ) → i < s .count → Bounds (tasks s) s i
   good-bounds i l = record { next = good-facts .next i l; budget = λ w. good-facts .job i l w .budget }
 
   -- other jobs, another clock and another choice
   pub good-changed : (clock : ℕ) (jobs : List Job) (c n : ℕ) → length jobs ≡ 16 → clock ≤ clockEnd
-      → SafeAs (tasks s) (stateOf (changed s clock jobs c n)) (s .kind)
+      → Safe (tasks s) (brittle (tasks s)) (stateOf (changed s clock jobs c n))
+      → (1 ≤ n → Apt (tasks s) (stateOf (changed s clock jobs c n)) c)
       → ((i : ℕ) → i < s .count → Bounds (tasks s) (changed s clock jobs c n) i)
       → (n ≡ 0) ⊎ Choice (changed s clock jobs c n) → Good (rowsOf s) (changed s clock jobs c n)
   unfolding rowsOf
-  good-changed clock jobs c n size end safe bounds choice = record {
+  good-changed clock jobs c n size end safe apt bounds choice = record {
     fit = g .fit;
     feasible = g .feasible;
     rows = refl;
@@ -80,9 +68,10 @@ module _ (s : Session) (g : Good (rowsOf s) s) where
           clock = end;
           next = λ i l. bounds i l .next;
           job = λ i l w.
-              let f = as-formed safe i (in-table g i l) w in
+              let f = safe .formed i (in-table g i l) w in
               record { some = f .some; most = f .most; deadline = f .deadline; notLate = f .ahead; budget = bounds i l .budget w };
           choice = choice;
         });
     safe = safe;
+    apt = apt;
   }

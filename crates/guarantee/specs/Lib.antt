@@ -10,7 +10,9 @@ pub mod KeepsArrive
 pub mod KeepsJobs
 pub mod KeepsFinish
 pub mod KeepsAdvance
+pub mod Picked
 pub mod KeepsPick
+pub mod KeepsApt
 pub mod Room
 pub mod KeepsChoose
 pub mod KeepsFresh
@@ -22,4 +24,5 @@ pub mod Guarantee
 pub mod Exact
 pub mod Uniform
 pub mod Tight
+pub mod Mixed
 pub mod Arrived

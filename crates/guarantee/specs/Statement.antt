@@ -5,10 +5,13 @@ use Prim.Native.Nat.{ℕ, _+_, _-_, _≤_, _<_}
 use mathlib.Core.Path.{_≡_}
 use mathlib.Core.Bool.{true, false}
 use mathlib.Core.List.{List, [], _∷_, _++_, map}
+use mathlib.Core.Logic.{_⊎_}
 use lib.Dec.{ltb, eqb}
 use lib.IntN.{ℤ, pos}
+use lib.ListN.{length}
 use Rattle.edf.specs.Demand.{TaskSet}
 use Rattle.table.specs.Rows.{tasksOf}
+use Rattle.table.specs.Budgets.{brittle}
 use Rattle.table.specs.Verdict.{answerOf}
 pub use Rattle.table.specs.Statement.{OverloadDeserved}
 use Rattle.session.specs.declared.Session.{Session}
@@ -17,7 +20,7 @@ use Rattle.session.specs.declared.Arrival.{Arrival}
 use Rattle.session.specs.declared.Outcome.{Outcome}
 use Rattle.session.specs.Reading.{idle, jobAt, tasks, waits}
 use Rattle.session.specs.Sound.{sound}
-use Rattle.session.specs.Order.{arrivalOf, cameBefore, headOf, permits, candidate, candidates}
+use Rattle.session.specs.Order.{arrivalOf, cameBefore, headOf, nextDue, brittleDue, near, candidate, idles, candidates}
 use Rattle.session.specs.Choose.{pickOf, spanOf, pickUsed, usedOf}
 use Rattle.session.specs.Calls.{shown, three, gains, arriveOf, chooseOf, advanceOf, finishOf}
 use Rattle.session.specs.Batch.{answered, afterAll, answeredAll}
@@ -182,7 +185,7 @@ CapCutsNothing =
 pub record HeadOnly (s : Session) : Type 0 where
   -- a row is a candidate only if it is the head, idle is none, and there is one in all
   pub row : (i : ℕ) → i < s .count → candidate s i ≡ eqb i (headOf s)
-  pub notIdle : permits s idle ≡ false
+  pub notIdle : idles s ≡ false
   pub number : candidates s ≡ 1
   -- so whatever the words are, the head is chosen for its remaining ticks, and no word is used
   pub pick : (l : List ℕ) → pickOf s l ≡ headOf s
@@ -192,3 +195,30 @@ pub record HeadOnly (s : Session) : Type 0 where
 -- IN A TIGHT SESSION THE HEAD IS THE ONLY CANDIDATE: in every sound session of kind 2 in which a job waits
 abbrev pub TightHead : Type 0
 TightHead = (s : Session) → sound s ≡ true → s .kind ≡ 2 → (i : ℕ) → i < s .count → waits s i ≡ true → HeadOnly s
+
+-- d is the earliest deadline that the next job of any brittle row of s can have
+pub record EarliestBrittle (s : Session) (d : ℕ) : Type 0 where
+  pub row : ℕ
+  pub known : row < s .count
+  pub marked : brittle (tasks s) row ≡ true
+  pub is : d ≡ nextDue s row
+  pub least : (j : ℕ) → j < s .count → brittle (tasks s) j ≡ true → d ≤ nextDue s j
+
+-- c is a waiting row: the head, or one whose job is due no later than the brittle deadline
+pub record HeadOrNear (s : Session) (c : ℕ) : Type 0 where
+  pub known : c < s .count
+  pub waiting : waits s c ≡ true
+  pub near : (c ≡ headOf s) ⊎ (jobAt s c .due ≤ brittleDue s)
+
+-- IN A MIXED SESSION NO CHOICE PASSES THE BRITTLE DEADLINE: in every sound session of kind 3 there is one, and where a job
+-- waits, the row that is chosen is the head or due by then, whatever the words are. So it is never idle.
+abbrev pub MixedChoice : Type 0
+MixedChoice =
+    (s : Session) → sound s ≡ true → s .kind ≡ 3
+    → EarliestBrittle s (brittleDue s) × ((i : ℕ) → i < s .count → waits s i ≡ true → (l : List ℕ) → HeadOrNear s (pickOf s l))
+
+-- IN A LOOSE SESSION THE BRITTLE DEADLINE KEEPS NOTHING OUT: in every sound record of kind 1 each waiting job is due by then
+abbrev pub LooseFree : Type 0
+LooseFree =
+    (s : Session) → sound s ≡ true → length (s .words) ≡ 48 → s .kind ≡ 1
+    → (i : ℕ) → i < s .count → waits s i ≡ true → near s i ≡ true

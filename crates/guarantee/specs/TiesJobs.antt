@@ -15,7 +15,7 @@ use Rattle.session.specs.Reading.{jobAt, waits, stateOf}
 use Rattle.session.specs.Facts.{Running}
 use Rattle.session.specs.Calls.{agedJob}
 use Rattle.session.specs.Jobs.{jobs-past}
-use Rattle.guarantee.specs.Good.{as-formed, as-slack, Good, good-places, in-table}
+use Rattle.guarantee.specs.Good.{Good, good-places, in-table}
 use Rattle.guarantee.specs.KeepsJobs.{Rebudgeted, jobAfter, aged-worked}
 use Rattle.guarantee.specs.TiesRow.{Ran}
 
@@ -27,7 +27,7 @@ module _ {l : List ℕ} {s : Session} (good : Good l s) where
       let w = lt-ltb 0 (jobAt s i .left) some in
       omega (
         arith,
-        as-slack (good .safe) i (in-table good i h) w,
+        good .safe .slack .slack i (in-table good i h) w,
         load-has (tasksOf l) (fit-lawful (tasksOf l) (good .fit)) (stateOf s) (jobAt s i .due) i (in-table good i h) w (le-refl (jobAt s i .due)),
       )
 
@@ -38,7 +38,7 @@ module _ {l : List ℕ} {s : Session} (good : Good l s) where
       dite (decLt 0 (jobAt s i .left))
       (λ some. absurd (omega (
         arith,
-        as-formed (good .safe) i (in-table good i h) (lt-ltb 0 (jobAt s i .left) some),
+        good .safe .formed i (in-table good i h) (lt-ltb 0 (jobAt s i .left) some),
         good .fit .row i (in-table good i h),
       )))
       (λ none. omega arith)

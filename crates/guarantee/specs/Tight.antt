@@ -15,16 +15,20 @@ use Rattle.session.specs.Order.{headOf, candidates}
 use Rattle.session.specs.First.{none-waits, head-waits, head-least}
 use Rattle.session.specs.Alone.{only-row, not-idle, one-candidate}
 use Rattle.session.specs.Choose.{contested, drawn, pickOf, room, unopposed, lengthDrawn, spanOf, pickUsed, usedOf}
-use Rattle.session.specs.Facts.{Facts, facts-of}
+use Rattle.session.specs.Facts.{Facts, facts-of, facts-row}
+use Rattle.session.specs.Brittle.{tight-rows}
 use Rattle.guarantee.specs.Statement.{TightHead}
-use Rattle.guarantee.specs.KeepsTable.{most-tight}
+use Rattle.guarantee.specs.KeepsTable.{most-brittle}
 use Rattle.guarantee.specs.KeepsChoice.{ahead-waits, ahead-earlier}
 use Rattle.guarantee.specs.Exact.{row-room}
 
 module _ (s : Session) (f : Facts s) (tight : s .kind ≡ 2) (h : headOf s < s .count) where
   -- its budget is spent
   spent : jobAt s (headOf s) .budget ≡ 0
-  spent = omega (arith, f .job (headOf s) h (head-waits s h) .budget, most-tight (tasks s) (s .kind) tight (headOf s))
+  spent =
+      let w = head-waits s h in
+      let b = tight-rows s f tight (headOf s) (facts-row s f (headOf s) h w) in
+      omega (arith, f .job (headOf s) h w .budget, most-brittle (tasks s) (headOf s) b)
 
   -- no job loses budget while the head runs
   none-ahead : (j : ℕ) → j < s .count → ahead s (headOf s) j ≡ false

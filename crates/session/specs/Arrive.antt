@@ -1,41 +1,54 @@
 -- An arrival leaves a sound session sound (docs/SPECIFICATION.md §5.3), also one that no list of calls leads to. Assumes nothing.
 use Prim.Native.Nat.{ℕ, _+_, _-_, _≤_, _<_}
 use mathlib.Core.Path.{_≡_, refl, sym, ap, _∙_}
-use mathlib.Core.Bool.{true}
+use mathlib.Core.Bool.{true, false≢true}
 use mathlib.Core.Logic.{dite, inl}
 use native.Mathlib.Omega.{arith}
 use native.Mathlib.Decide.{ℕ-discrete}
-use lib.Dec.{leb, ltb, eqb}
-use lib.IntN.{subℕ}
+use lib.Dec.{leb, ltb}
+use lib.IntN.{ℤ, pos, negsuc, subℕ}
 use lib.ListN.{length, set}
 use lib.Seq.{getD-set-same, getD-set-other}
 use borrow.Author.Tests.{leb-false}
 use Rattle.bounded.specs.Tests.{both}
-use Rattle.bounded.specs.Signed.{difference-sub}
+use Rattle.bounded.specs.Signed.{negative, difference-sub}
 use Rattle.edf.specs.Demand.{TaskSet, interference}
-use Rattle.table.specs.Budgets.{budgetOf}
+use Rattle.table.specs.Budgets.{budgetOf, brittle}
 use Rattle.session.specs.declared.Job.{Job}
 use Rattle.session.specs.declared.Session.{Session}
-use Rattle.session.specs.Reading.{noJob, jobAt, rowsOf, tasks, waits, natural, startBy, startBudget, mostBudget}
+use Rattle.session.specs.Reading.{noJob, jobAt, rowsOf, tasks, waits, natural, startBudget, mostBudget}
 use Rattle.session.specs.Sound.{sound}
 use Rattle.session.specs.Calls.{changed, arrivedJob, arriveIn, arriveOf}
 use Rattle.session.specs.Facts.{Waiting, Facts, facts-of, sound-of, facts-fit}
-use Rattle.session.specs.Soundness.{rows-count}
+use Rattle.session.specs.Brittle.{rows-count}
 
 natural-le : (a b : ℕ) → natural (subℕ a b) ≤ a - b
 natural-le a b = both (ltb a b) (λ e. simp e (omega arith)) (λ e. simp e (omega arith))
 
--- a job arrives with no more than the most budget: V is at most D − C
-start-most : (τ : TaskSet) (kind i : ℕ) → startBudget kind τ i ≤ mostBudget kind τ i
-unfolding startBudget startBy budgetOf mostBudget
-start-most τ kind i =
-    both (eqb kind 1)
-    (λ e. simp e (omega (
+pub natural-none : (v : ℤ) → negative v ≡ true → natural v ≡ 0
+natural-none (pos n) e = absurd (false≢true e)
+natural-none (negsuc n) e = refl
+
+-- a brittle row's starting budget is 0
+pub start-brittle : (τ : TaskSet) (i : ℕ) → brittle τ i ≡ true → startBudget τ i ≡ 0
+unfolding brittle startBudget
+start-brittle τ i = natural-none (budgetOf τ i)
+
+-- V is at most D − C
+start-le : (τ : TaskSet) (i : ℕ) → startBudget τ i ≤ τ .D i - τ .C i
+unfolding startBudget budgetOf
+start-le τ i =
+    omega (
       arith,
       natural-le (τ .D i) (τ .C i + interference τ i (τ .D i)),
       ap natural (difference-sub (τ .D i) (τ .C i) (interference τ i (τ .D i))),
-    )))
-    (λ e. simp e (omega arith))
+    )
+
+-- so a job arrives with no more than the most budget
+start-most : (τ : TaskSet) (i : ℕ) → startBudget τ i ≤ mostBudget τ i
+unfolding mostBudget
+start-most τ i =
+    both (brittle τ i) (λ e. simp e (omega (arith, start-brittle τ i e))) (λ e. simp e (start-le τ i))
 
 pub waits-same : (s s′ : Session) (i : ℕ) → jobAt s′ i ≡ jobAt s i → waits s′ i ≡ waits s i
 unfolding waits
@@ -65,7 +78,7 @@ module _ (s : Session) (k : ℕ) where
           most = omega (arith, ap (λ (j : Job). j .left) is);
           deadline = omega (arith, ap (λ (j : Job). j .due) is, ap (λ (j : Job). j .next) is);
           notLate = omega (arith, ap (λ (j : Job). j .due) is, r .cost, r .fits);
-          budget = omega (arith, ap (λ (j : Job). j .budget) is, start-most (tasks s) (s .kind) k);
+          budget = omega (arith, ap (λ (j : Job). j .budget) is, start-most (tasks s) k);
         }
 
     waiting-old : (i : ℕ) → ¬ (i ≡ k) → i < s .count → waits withArrived i ≡ true → Waiting withArrived i

@@ -1,12 +1,13 @@
 -- The four calls (docs/SPECIFICATION.md §5.3 to §5.7). Assumes nothing.
 use Prim.Native.Nat.{ℕ, _+_, _-_, min}
 use mathlib.Core.Path.{_≡_}
-use mathlib.Core.Bool.{Bool, _&&_, _||_, cond}
+use mathlib.Core.Bool.{Bool, not, _&&_, _||_, cond}
 use mathlib.Core.List.{List}
 use lib.Dec.{leb, ltb, eqb}
 use lib.ListN.{set}
 use Rattle.bounded.specs.Fold.{foldTo}
 use Rattle.edf.specs.Demand.{TaskSet}
+use Rattle.table.specs.Budgets.{brittle}
 use Rattle.session.specs.declared.Job.{Job}
 use Rattle.session.specs.declared.Session.{Session}
 use Rattle.session.specs.declared.Numbers.{Numbers}
@@ -79,11 +80,11 @@ withBudget j b = record { next = j .next; due = j .due; left = j .left; budget =
 -- ---- arrive
 
 -- earliest next arrival clock + T; the job waits with deadline clock + D, remaining C, and the starting budget
-abbrev pub arrivedBy : TaskSet → ℕ → ℕ → ℕ → Job
-arrivedBy τ row clock kind = record { next = clock + τ .T row; due = clock + τ .D row; left = τ .C row; budget = startBudget kind τ row }
+abbrev pub arrivedBy : TaskSet → ℕ → ℕ → Job
+arrivedBy τ row clock = record { next = clock + τ .T row; due = clock + τ .D row; left = τ .C row; budget = startBudget τ row }
 
 abbrev pub arrivedJob : Session → ℕ → Job
-arrivedJob s row = arrivedBy (tasks s) row (s .clock) (s .kind)
+arrivedJob s row = arrivedBy (tasks s) row (s .clock)
 
 -- a choice in force is dropped
 unfoldable pub arriveIn : Session → ℕ → Outcome
@@ -141,9 +142,9 @@ advanceIn s n =
 abbrev pub unusedOf : Session → ℕ
 unusedOf s = jobAt s (s .chosen) .left
 
--- the jobs that gain these ticks: in a loose session, each waiting job of strictly later deadline than the chosen one
+-- the jobs that gain these ticks: each waiting job of strictly later deadline than the chosen one, whose row is not brittle
 unfoldable pub gains : Session → ℕ → Bool
-gains s i = eqb (s .kind) 1 && (waits s i && ltb (jobAt s (s .chosen) .due) (jobAt s i .due))
+gains s i = not (brittle (tasks s) i) && (waits s i && ltb (jobAt s (s .chosen) .due) (jobAt s i .due))
 
 -- row i after the chosen job is over: a job that gains has the unused ticks as budget besides its own, never above its D − C
 unfoldable pub givenJob : Session → ℕ → Job

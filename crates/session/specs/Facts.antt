@@ -6,7 +6,7 @@ use mathlib.Core.Logic.{dite, _⊎_, inl, inr, ⊎-elim}
 use native.Mathlib.Omega.{arith}
 use native.Mathlib.Decide.{decLt}
 use lib.Dec.{leb, eqb}
-use lib.ListN.{length, List·getD-eq-default}
+use lib.ListN.{List·getD-eq-default}
 use borrow.Author.Tests.{leb-true, ltb-true, eqb-true, eqb-false, le-leb, lt-ltb, eq-eqb}
 use Rattle.bounded.specs.Tests.{both, and-true, and-both, so-then, then-so, or-true}
 use Rattle.bounded.specs.All.{allTo, all-at, all-of}
@@ -23,7 +23,7 @@ pub record Waiting (s : Session) (i : ℕ) : Type 0 where
   pub most : jobAt s i .left ≤ tasks s .C i
   pub deadline : jobAt s i .due + tasks s .T i ≡ jobAt s i .next + tasks s .D i
   pub notLate : s .clock < jobAt s i .due
-  pub budget : jobAt s i .budget ≤ mostBudget (s .kind) (tasks s) i
+  pub budget : jobAt s i .budget ≤ mostBudget (tasks s) i
 
 -- the chosen row, where idle is not chosen
 pub record Running (s : Session) : Type 0 where
@@ -155,9 +155,18 @@ sound-of s f =
 pub facts-fit : (s : Session) → Facts s → Fit (tasks s)
 facts-fit s f = answer-fit (rowsOf s) (f .admitted)
 
--- D is at most 1,000,000; past the table's rows it is read as 0
-pub facts-deadline : (s : Session) → Facts s → (i : ℕ) → tasks s .D i ≤ horizon
+-- past the table's rows D is read as 0
+past-deadline : (s : Session) (i : ℕ) → tasks s .rows ≤ i → tasks s .D i ≡ 0
 unfolding tasksOf
+past-deadline s i h = List·getD-eq-default (rowsOf s) 0 {n = 3 * i + 2} (omega arith)
+
+-- it is at most 1,000,000
+pub facts-deadline : (s : Session) → Facts s → (i : ℕ) → tasks s .D i ≤ horizon
 facts-deadline s f i =
-    dite (decLt i (length (rowsOf s) / 3)) (λ h. omega (arith, facts-fit s f .row i h))
-    (λ h. rw (List·getD-eq-default (rowsOf s) 0 {n = 3 * i + 2} (omega arith)) (omega arith))
+    dite (decLt i (tasks s .rows)) (λ h. omega (arith, facts-fit s f .row i h)) (λ h. omega (arith, past-deadline s i (omega arith)))
+
+-- a job waits only in a row of the table
+pub facts-row : (s : Session) → Facts s → (i : ℕ) → i < s .count → waits s i ≡ true → i < tasks s .rows
+facts-row s f i l w =
+    dite (decLt i (tasks s .rows)) (λ h. h)
+    (λ h. let j = f .job i l w in absurd (omega (arith, j .deadline, j .notLate, f .next i l, past-deadline s i (omega arith))))

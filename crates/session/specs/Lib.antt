@@ -11,6 +11,7 @@ pub mod Batch
 pub mod Jobs
 pub mod Admit
 pub mod Facts
+pub mod Brittle
 pub mod Ahead
 pub mod Soundness
 pub mod Arrive

@@ -8,7 +8,7 @@ use lib.ListN.{getD, take}
 use Rattle.edf.specs.Demand.{TaskSet}
 use Rattle.edf.specs.State.{State}
 use Rattle.table.specs.Rows.{tasksOf}
-use Rattle.table.specs.Budgets.{budgetOf}
+use Rattle.table.specs.Budgets.{budgetOf, brittle}
 use Rattle.session.specs.declared.Job.{Job}
 use Rattle.session.specs.declared.Session.{Session}
 
@@ -19,6 +19,10 @@ idle = 16
 -- the last tick that a clock may show, 2 ^ 53
 abbrev pub clockEnd : ℕ
 clockEnd = 9007199254740992
+
+-- later than every deadline of a sound session
+abbrev pub far : ℕ
+far = 72057594037927935
 
 abbrev pub noJob : Job
 noJob = record { next = 0; due = 0; left = 0; budget = 0 }
@@ -46,16 +50,13 @@ abbrev pub natural : ℤ → ℕ
 natural (pos n) = n
 natural (negsuc n) = 0
 
--- a row's starting budget: V in a loose session, 0 in a tight one
-unfoldable pub startBy : ℕ → ℤ → ℕ
-startBy kind v = cond (eqb kind 1) (natural v) 0
+-- a row's starting budget: V, and 0 where the row is brittle
+unfoldable pub startBudget : TaskSet → ℕ → ℕ
+startBudget τ i = natural (budgetOf τ i)
 
-unfoldable pub startBudget : ℕ → TaskSet → ℕ → ℕ
-startBudget kind τ i = startBy kind (budgetOf τ i)
-
--- the most budget that a waiting job may have: D − C in a loose session, 0 in a tight one
-unfoldable pub mostBudget : ℕ → TaskSet → ℕ → ℕ
-mostBudget kind τ i = cond (eqb kind 1) (τ .D i - τ .C i) 0
+-- the most budget that a waiting job may have: D − C, and 0 where the row is brittle
+unfoldable pub mostBudget : TaskSet → ℕ → ℕ
+mostBudget τ i = cond (brittle τ i) 0 (τ .D i - τ .C i)
 
 -- the session as the theory sees it
 abbrev pub stateOf : Session → State

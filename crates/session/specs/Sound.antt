@@ -12,12 +12,13 @@ use Rattle.session.specs.Reading.{idle, clockEnd, jobAt, rowsOf, tasks, 
 unfoldable pub soundRows : Session → Bool
 soundRows s = leb (s .count) 16 && (eqb (answerOf (rowsOf s) .number) 0 && eqb (answerOf (rowsOf s) .first) (s .kind))
 
--- a waiting job: remaining ≤ C, deadline = earliest next arrival − T + D, clock < deadline, budget ≤ D − C (0 when tight)
+-- a waiting job: remaining ≤ C, deadline = earliest next arrival − T + D, clock < deadline, budget ≤ D − C (0 where its row
+-- is brittle)
 unfoldable pub soundWaiting : Session → ℕ → Bool
 soundWaiting s i =
     leb (jobAt s i .left) (tasks s .C i)
     && (eqb (jobAt s i .due + tasks s .T i) (jobAt s i .next + tasks s .D i)
-    && (ltb (s .clock) (jobAt s i .due) && leb (jobAt s i .budget) (mostBudget (s .kind) (tasks s) i)))
+    && (ltb (s .clock) (jobAt s i .due) && leb (jobAt s i .budget) (mostBudget (tasks s) i)))
 
 -- each row: earliest next arrival ≤ clock + T, and its job, if one waits, as above
 unfoldable pub soundJob : Session → ℕ → Bool

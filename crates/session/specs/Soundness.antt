@@ -1,23 +1,27 @@
 -- The code that decides soundness, row by row (docs/SPECIFICATION.md §5.2). Assumes nothing.
-use Prim.Native.Nat.{ℕ, _+_, _-_, _*_, _≤_, _<_}
+use Prim.Native.Nat.{ℕ, _+_, _-_, _≤_, _<_}
 use mathlib.Core.Path.{_≡_, sym, ap, _∙_}
-use mathlib.Core.Bool.{Bool, true, false, not, _&&_, _||_, cond}
+use mathlib.Core.Bool.{Bool, true, false, not, _&&_, _||_, cond, false≢true}
+use mathlib.Core.List.{List}
 use native.Mathlib.Omega.{arith}
 use lib.Dec.{leb, ltb, eqb}
-use lib.ListN.{length}
-use lib.Seq.{length-take-le}
+use lib.ListN.{length, getD}
 use borrow.Author.Tests.{lt-ltb, le-ltb, le-leb, lt-leb, eq-eqb, ne-eqb}
 use Rattle.bounded.specs.All.{allTo}
 use Rattle.edf.specs.Demand.{TaskSet}
 use Rattle.table.specs.declared.rows.Task.{Task}
-use Rattle.table.specs.Rows.{horizon, tasksOf, FitRow, Fit}
-use Rattle.table.specs.Verdict.{answerOf, kindOf}
-use Rattle.table.specs.Kind.{kind-none, kind-some}
+use Rattle.table.specs.Rows.{horizon, FitRow, Fit}
+use Rattle.table.specs.declared.kind.Kind.{Kind}
+use Rattle.table.specs.Budgets.{marks-at}
+use Rattle.table.specs.Verdict.{answerOf}
+use Rattle.table.specs.Kind.{KindFor, kind-none, kind-some}
 use Rattle.table.specs.Theorems.{answer-fit}
 use Rattle.session.specs.declared.Job.{Job}
 use Rattle.session.specs.declared.Session.{Session}
+use Rattle.session.specs.declared.sound.Check.{Check}
 use Rattle.session.specs.Reading.{idle, clockEnd, jobAt, rowsOf, tasks, waits, mostBudget}
 use Rattle.session.specs.Sound.{soundRows, soundWaiting, soundJob, runs, affords, soundChoice, sound}
+use Rattle.session.specs.Brittle.{rows-count, Marks}
 use Rattle.session.specs.Ahead.{aheadBy, DueOf, ahead-is}
 
 -- a row's job j, with its task k, the clock and the most budget that it may have
@@ -91,33 +95,33 @@ module _ (j : Job) (k : Task) (clock most : ℕ) (m : Small k clock) where
 
 pub ruleset job-cases = (job-next, job-none, job-left, job-far, job-other, job-late, job-rest)
 
--- the most budget of a job of task k
-unfoldable pub mostBy : ℕ → Task → ℕ
-mostBy kind k = cond (eqb kind 1) (k .deadline - k .run) 0
+-- the most budget of a job of task k, whose row is brittle or not
+unfoldable pub mostBy : Bool → Task → ℕ
+mostBy m k = cond m 0 (k .deadline - k .run)
 
-module _ (kind : ℕ) (k : Task) where
-  pub most-loose : kind ≡ 1 → k .deadline - k .run ≡ mostBy kind k
+module _ (m : Bool) (k : Task) where
+  pub most-brittle : m ≡ true → 0 ≡ mostBy m k
   unfolding mostBy
-  most-loose e = simp (eq-eqb kind 1 e)
+  most-brittle e = simp e
 
-  pub most-tight : (kind ≡ 1 → ⊥) → 0 ≡ mostBy kind k
+  pub most-other : m ≡ false → k .deadline - k .run ≡ mostBy m k
   unfolding mostBy
-  most-tight ne = simp (ne-eqb kind 1 ne)
+  most-other e = simp e
 
-pub ruleset most-cases = (most-loose, most-tight)
+pub ruleset most-cases = (most-brittle, most-other)
 
--- the same of row i of τ, and the session's kind
-unfoldable pub soundIn : TaskSet → ℕ → Job → ℕ → ℕ → Bool
-soundIn τ i j kind clock =
+-- the same of row i of τ
+unfoldable pub soundIn : TaskSet → ℕ → Job → Bool → ℕ → Bool
+soundIn τ i j m clock =
     leb (j .next) (clock + τ .T i)
     && (not (ltb 0 (j .left))
     || (leb (j .left) (τ .C i)
-    && (eqb (j .due + τ .T i) (j .next + τ .D i) && (ltb clock (j .due) && leb (j .budget) (mostBudget kind τ i)))))
+    && (eqb (j .due + τ .T i) (j .next + τ .D i) && (ltb clock (j .due) && leb (j .budget) (cond m 0 (τ .D i - τ .C i))))))
 
-pub row-is : (τ : TaskSet) (i most kind clock : ℕ) (j : Job) (k : Task) (b : Bool) → FitRow τ i k → most ≡ mostBy kind k
-    → b ≡ soundBy j k clock most → b ≡ soundIn τ i j kind clock
-unfolding soundBy soundIn mostBy mostBudget
-row-is τ i most kind clock j k b f g h = let r = f .row in h ∙ rw (g, r .run, r .period, r .deadline)
+pub row-is : (τ : TaskSet) (i most clock : ℕ) (j : Job) (m : Bool) (k : Task) (b : Bool) → FitRow τ i k → most ≡ mostBy m k
+    → b ≡ soundBy j k clock most → b ≡ soundIn τ i j m clock
+unfolding soundBy soundIn mostBy
+row-is τ i most clock j m k b f g h = let r = f .row in h ∙ rw (g, r .run, r .period, r .deadline)
 
 pub row-small : (τ : TaskSet) (i clock : ℕ) (k : Task) → clock ≤ clockEnd → FitRow τ i k → Small k clock
 row-small τ i clock k h f =
@@ -208,55 +212,79 @@ module _ (s : Session) where
 pub ruleset choice-cases = (choice-none, choice-long, choice-idle, choice-unknown, choice-over, choice-short, choice-row)
 
 -- what the check has found of the rows and the clock
-pub record Checked (s : Session) : Type 0 where
+pub record Checked (s : Session) (m : List Bool) : Type 0 where
   pub few : s .count ≤ 16
   pub places : length (s .words) ≡ 48
   pub clock : s .clock ≤ clockEnd
   pub rows : tasks s .rows ≡ s .count
   pub fit : Fit (tasks s)
+  pub marks : Marks s m
 
-pub checked-fit : (s : Session) (i : ℕ) → Checked s → i < s .count → Fit (tasks s) × (i < tasks s .rows)
-checked-fit s i h l = (h .fit, omega (arith, h .rows))
+pub checked-fit : (s : Session) (m : List Bool) (i : ℕ) → Checked s m → i < s .count → Fit (tasks s) × (i < tasks s .rows)
+checked-fit s m i h l = (h .fit, omega (arith, h .rows))
 
-pub job-turn : (s : Session) (i : ℕ) (b : Bool) → b ≡ soundIn (tasks s) i (jobAt s i) (s .kind) (s .clock) → b ≡ soundJob s i
-unfolding soundIn soundJob soundWaiting waits
-job-turn s i b e = e
+pub job-turn : (s : Session) (m : List Bool) (i : ℕ) (b : Bool) → Checked s m → i < s .count
+    → b ≡ soundIn (tasks s) i (jobAt s i) (getD m i false) (s .clock) → b ≡ soundJob s i
+unfolding soundIn soundJob soundWaiting waits mostBudget
+job-turn s m i b h l e = e ∙ ap (λ (x : Bool). soundIn (tasks s) i (jobAt s i) x (s .clock)) (h .marks .at i l)
 
 -- ---- the whole test
 
-pub rows-count : (s : Session) → s .count ≤ 16 → length (s .words) ≡ 48 → tasks s .rows ≡ s .count
-unfolding rowsOf tasksOf
-rows-count s few places = omega (arith, length-take-le (3 * s .count) (s .words) (omega arith))
+-- ---- the check: whether a session is sound, and if so, which rows are brittle
 
-pub sound-many : (s : Session) → 16 < s .count → false ≡ sound s
+pub record Checks (s : Session) (c : Check) : Type 0 where
+  pub sound : c .sound ≡ sound s
+  pub marks : c .sound ≡ true → Marks s (c .brittle)
+
+-- what a caller has of it where it says yes
+pub checked-marks : (s : Session) (c : Check) → Checks s c → c .sound ≡ true → Marks s (c .brittle)
+checked-marks s c h = h .marks
+
+-- the answer no
+abbrev pub unsoundWith : List Bool → Check
+unsoundWith m = record { sound = false; brittle = m }
+
+check-no : (s : Session) (m : List Bool) (c : Check) → c ≡ unsoundWith m → false ≡ sound s → Checks s c
+check-no s m c g e = rw g (record { sound = e; marks = λ t. absurd (false≢true t) })
+
+pub check-many : (s : Session) (m : List Bool) (c : Check) → c ≡ unsoundWith m → 16 < s .count → Checks s c
 unfolding sound soundRows
-sound-many s h = simp (lt-leb (s .count) 16 h)
+check-many s m c g h = check-no s m c g (simp (lt-leb (s .count) 16 h))
 
-module _ (s : Session) (few : s .count ≤ 16) (k : ℕ) (h : k ≡ kindOf (rowsOf s)) where
-  pub sound-refused : k ≡ 0 → false ≡ sound s
+module _ (s : Session) (few : s .count ≤ 16) (k : Kind) (h : KindFor (rowsOf s) k) where
+  pub check-refused : (c : Check) → c ≡ unsoundWith (k .brittle) → k .number ≡ 0 → Checks s c
   unfolding sound soundRows
-  sound-refused z =
-      simp (
+  check-refused c g z =
+      check-no s (k .brittle) c g
+      (simp (
         le-leb (s .count) 16 few,
-        ne-eqb (answerOf (rowsOf s) .number) 0 (kind-none (rowsOf s) (sym h ∙ z)),
-      )
+        ne-eqb (answerOf (rowsOf s) .number) 0 (kind-none (rowsOf s) (sym (h .number) ∙ z)),
+      ))
 
-  module _ (ne : k ≡ 0 → ⊥) where
-    answer-is : (answerOf (rowsOf s) .number ≡ 0) × (answerOf (rowsOf s) .first ≡ k)
+  module _ (ne : k .number ≡ 0 → ⊥) where
+    answer-is : (answerOf (rowsOf s) .number ≡ 0) × (answerOf (rowsOf s) .first ≡ k .number)
     answer-is =
-        let a = kind-some (rowsOf s) (λ z. ne (h ∙ z)) in
-        (a .0, a .1 ∙ sym h)
+        let a = kind-some (rowsOf s) (λ z. ne (h .number ∙ z)) in
+        (a .0, a .1 ∙ sym (h .number))
 
-    pub sound-kind : (k ≡ s .kind → ⊥) → false ≡ sound s
+    -- and which rows are brittle
+    marks-are : length (s .words) ≡ 48 → Marks s (k .brittle)
+    marks-are p = record {
+      at = λ i l. ap (λ (x : List Bool). getD x i false) (h .brittle ne)
+          ∙ marks-at (tasks s) i (answer-fit (rowsOf s) (answer-is .0)) (omega (arith, rows-count s few p));
+    }
+
+    pub check-kind : (c : Check) → c ≡ unsoundWith (k .brittle) → (k .number ≡ s .kind → ⊥) → Checks s c
     unfolding sound soundRows
-    sound-kind other =
-        simp (
+    check-kind c g other =
+        check-no s (k .brittle) c g
+        (simp (
           le-leb (s .count) 16 few,
           eq-eqb (answerOf (rowsOf s) .number) 0 (answer-is .0),
           ne-eqb (answerOf (rowsOf s) .first) (s .kind) (λ e. other (sym (answer-is .1) ∙ e)),
-        )
+        ))
 
-    module _ (same : k ≡ s .kind) where
+    module _ (same : k .number ≡ s .kind) where
       rows-sound : soundRows s ≡ true
       unfolding soundRows
       rows-sound =
@@ -266,21 +294,29 @@ module _ (s : Session) (few : s .count ≤ 16) (k : ℕ) (h : k ≡ kindOf (rows
             eq-eqb (answerOf (rowsOf s) .first) (s .kind) (answer-is .1 ∙ same),
           )
 
-      pub sound-clock : clockEnd < s .clock → false ≡ sound s
+      pub check-clock : (c : Check) → c ≡ unsoundWith (k .brittle) → clockEnd < s .clock → Checks s c
       unfolding sound
-      sound-clock c = simp (rows-sound, lt-leb (s .clock) clockEnd c)
+      check-clock c g l = check-no s (k .brittle) c g (simp (rows-sound, lt-leb (s .clock) clockEnd l))
 
-      module _ (c : s .clock ≤ clockEnd) where
-        pub sound-checked : length (s .words) ≡ 48 → Checked s
-        sound-checked p =
-            record { few = few; places = p; clock = c; rows = rows-count s few p; fit = answer-fit (rowsOf s) (answer-is .0) }
+      module _ (u : s .clock ≤ clockEnd) where
+        pub check-ready : length (s .words) ≡ 48 → Checked s (k .brittle)
+        check-ready p = record {
+          few = few;
+          places = p;
+          clock = u;
+          rows = rows-count s few p;
+          fit = answer-fit (rowsOf s) (answer-is .0);
+          marks = marks-are p;
+        }
 
-        pub sound-jobs : (b : Bool) → b ≡ allTo (soundJob s) (s .count) → b ≡ false → false ≡ sound s
+        pub check-jobs : (c : Check) → c ≡ unsoundWith (k .brittle) → (b : Bool) → b ≡ allTo (soundJob s) (s .count) → b ≡ false → Checks s c
         unfolding sound
-        sound-jobs b e f = simp (rows-sound, le-leb (s .clock) clockEnd c, sym e ∙ f)
+        check-jobs c g b e f = check-no s (k .brittle) c g (simp (rows-sound, le-leb (s .clock) clockEnd u, sym e ∙ f))
 
-        pub sound-rest : (b x : Bool) → b ≡ allTo (soundJob s) (s .count) → b ≡ true → x ≡ soundChoice s → x ≡ sound s
+        pub check-rest : (b x : Bool) → length (s .words) ≡ 48 → b ≡ allTo (soundJob s) (s .count) → b ≡ true → x ≡ soundChoice s
+            → Checks s (record { sound = x; brittle = k .brittle })
         unfolding sound
-        sound-rest b x e t f = f ∙ sym (simp (rows-sound, le-leb (s .clock) clockEnd c, sym e ∙ t))
+        check-rest b x p e t f =
+            record { sound = f ∙ sym (simp (rows-sound, le-leb (s .clock) clockEnd u, sym e ∙ t)); marks = λ y. marks-are p }
 
-pub ruleset sound-cases = (sound-many, sound-refused, sound-kind, sound-clock, sound-jobs, sound-rest)
+pub ruleset check-cases = (check-many, check-refused, check-kind, check-clock, check-jobs, check-rest)

@@ -7,6 +7,7 @@ ghost use Rattle.session.specs.Calls.{refused, shown, three, Shows};
 ghost use Rattle.session.specs.Admit.{wordsTo, freshOf, noSession};
 
 pub mod admit;
+pub mod brittle;
 pub mod sound;
 
 // A row's earliest next arrival; and its waiting job's deadline, remaining ticks and budget left (the remaining inversion
@@ -23,7 +24,7 @@ pub struct Job {
 #[repr(C)]
 pub struct Session {
     pub clock: u64,
-    // 1 loose, 2 tight.
+    // 1 loose, 2 tight, 3 mixed.
     pub kind: u64,
     // The rows, and three numbers to each: C, T, D.
     pub count: u64,

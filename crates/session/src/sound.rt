@@ -7,7 +7,7 @@ ghost use Rattle.bounded.specs.All.{allTo};
 ghost use Rattle.session.specs.Reading.{clockEnd};
 ghost use Rattle.session.specs.Sound.{affords, soundJob, soundChoice, sound};
 ghost use Rattle.session.specs.Ahead.{aheadBy, DueOf};
-ghost use Rattle.session.specs.Soundness.{Small, mostBy, soundBy, soundIn, affordsBy, Checked};
+ghost use Rattle.session.specs.Soundness.{Small, mostBy, soundBy, soundIn, affordsBy, Checked, unsoundWith, Checks};
 use super::Job;
 use super::Session;
 use table::rows::Task;
@@ -83,15 +83,15 @@ fn choice_sound(s: Session) -> bool
     covered(s, c, k.due, span)
 }
 
-// The most budget that a waiting job may have: D − C in a loose session, 0 in a tight one.
-fn most_budget(kind: u64, k: Task) -> u64
+// The most budget that a waiting job may have: D − C, and 0 where its row is brittle.
+fn most_budget(brittle: bool, k: Task) -> u64
     requires { ⌜ k .run ≤ k .deadline ⌝ }
-    ensures { λ r. ⌜ r ≡ mostBy kind k ⌝ }
+    ensures { λ r. ⌜ r ≡ mostBy brittle k ⌝ }
 {
-    if kind == 1 {
-        return k.deadline - k.run;
+    if brittle {
+        return 0;
     }
-    0
+    k.deadline - k.run
 }
 
 // A row's job, with its task, the clock and the most budget that it may have.
@@ -121,29 +121,28 @@ fn job_sound(j: Job, k: Task, clock: u64, most: u64) -> bool
     j.budget <= most
 }
 
-// Row i of a table, with its job, the session's kind and the clock.
-fn row_sound(rows: &[u32], i: usize, j: Job, kind: u64, clock: u64) -> bool
+// Row i of a table, which is brittle or not, with its job and the clock.
+fn row_sound(rows: &[u32], i: usize, j: Job, brittle: bool, clock: u64) -> bool
     requires { ⌜ Fit (tasksOf (now rows)) × (i < tasksOf (now rows) .rows) × (clock ≤ clockEnd) ⌝ }
-    ensures { λ r. ⌜ r ≡ soundIn (tasksOf (now (rows .entry))) i j kind clock ⌝ }
+    ensures { λ r. ⌜ r ≡ soundIn (tasksOf (now (rows .entry))) i j brittle clock ⌝ }
 {
     let k = table::rows::fit_row(rows, i);
-    let most = most_budget(kind, k);
+    let most = most_budget(brittle, k);
     job_sound(j, k, clock, most)
 }
 
-fn jobs_sound(s: Session) -> bool
-    requires { ⌜ Checked s ⌝ }
+fn jobs_sound(s: Session, brittle: [bool; 16]) -> bool
+    requires { ⌜ Checked s brittle ⌝ }
     ensures { λ r. ⌜ r ≡ allTo (soundJob s) (s .count) ⌝ }
 {
     let n = s.count as usize;
     let clock = s.clock;
-    let kind = s.kind;
     let words = s.words;
     let e = 3 * n;
     let rows = &words[..e];
     let mut i: usize = 0;
     while i < n {
-        if row_sound(rows, i, s.jobs[i], kind, clock) {
+        if row_sound(rows, i, s.jobs[i], brittle[i], clock) {
             i = i + 1;
         } else {
             return false;
@@ -152,28 +151,54 @@ fn jobs_sound(s: Session) -> bool
     true
 }
 
-// Whether the session is one that a call takes.
-pub fn is_sound(s: Session) -> bool
-    ensures { λ r. ⌜ r ≡ sound s ⌝ }
+// Whether a session is sound, and if so, which of its rows are brittle, so that a call need not work that out again.
+pub struct Check {
+    pub sound: bool,
+    pub brittle: [bool; 16],
+}
+
+fn unsound(brittle: [bool; 16]) -> Check
+    ensures { λ r. ⌜ r ≡ unsoundWith brittle ⌝ }
+{
+    Check {
+        sound: false,
+        brittle,
+    }
+}
+
+pub fn check_of(s: Session) -> Check
+    ensures { λ r. ⌜ Checks s r ⌝ }
 {
     let count = s.count;
     if Session::ROWS < count {
-        return false;
+        return unsound([false; 16]);
     }
     let words = s.words;
     let e = 3 * (count as usize);
     let k = table::kind::kind_of(&words[..e]);
-    if k == 0 {
-        return false;
+    let brittle = k.brittle;
+    if k.number == 0 {
+        return unsound(brittle);
     }
-    if k != s.kind {
-        return false;
+    if k.number != s.kind {
+        return unsound(brittle);
     }
     if Session::CLOCK_END < s.clock {
-        return false;
+        return unsound(brittle);
     }
-    if jobs_sound(s) {
-        return choice_sound(s);
+    if jobs_sound(s, brittle) {
+        return Check {
+            sound: choice_sound(s),
+            brittle,
+        };
     }
-    false
+    unsound(brittle)
+}
+
+// Whether the session is one that a call takes.
+pub fn is_sound(s: Session) -> bool
+    ensures { λ r. ⌜ r ≡ sound s ⌝ }
+{
+    let c = check_of(s);
+    c.sound
 }

@@ -1,7 +1,7 @@
 -- What `assess` promises, and the cases of its code. Assumes nothing.
 use Prim.Native.Nat.{ℕ, _%_, _≤_, _<_, min}
 use mathlib.Core.Path.{_≡_, sym, ap, _∙_}
-use mathlib.Core.Bool.{Bool, true, false, not, true≢false}
+use mathlib.Core.Bool.{Bool, true, false, not, cond, true≢false}
 use mathlib.Core.List.{List, []}
 use native.Mathlib.Omega.{arith}
 use lib.Dec.{ltb, eqb}
@@ -12,23 +12,24 @@ use Rattle.bounded.specs.Tests.{both}
 use Rattle.bounded.specs.Least.{leastFrom, least-found, least-none}
 use Rattle.edf.specs.Demand.{TaskSet, demand}
 use Rattle.table.specs.declared.Verdict.{Verdict}
-use Rattle.table.specs.declared.Verdict.the-variants.{Loose, Tight, Length, Row, Overload, Unsettled}
+use Rattle.table.specs.declared.Verdict.the-variants.{Loose, Tight, Mixed, Length, Row, Overload, Unsettled}
 use Rattle.table.specs.declared.Numbers.{Numbers}
 use Rattle.table.specs.declared.Assessment.{Assessment}
 use Rattle.table.specs.declared.budgets.Budgets.{Budgets}
 use Rattle.table.specs.declared.busy.Busy.{Busy}
 use Rattle.table.specs.declared.overload.Found.{Found}
 use Rattle.table.specs.Rows.{horizon, tasksOf, firstBroken, Fit, fit-of}
-use Rattle.table.specs.Budgets.{loose, valuesOf, budgetsOf}
+use Rattle.table.specs.Budgets.{loose, firm, valuesOf, marksOf, budgetsOf}
 use Rattle.table.specs.Busy.{busyLength, Settled}
 use Rattle.table.specs.Overload.{Searched, over, none}
 use Rattle.table.specs.First.{First}
-use Rattle.table.specs.Verdict.{Answer, badLength, comparedTo, firstOverload, overloaded, settled, opinionOf, answerOf}
+use Rattle.table.specs.Verdict.{Answer, admitted, badLength, comparedTo, firstOverload, overloaded, settled, heavyKind, opinionOf, answerOf}
 
 -- each verdict's number, and its two values (docs/SPECIFICATION.md §3.2)
 abbrev pub shown : Verdict → List ℤ → Answer
 shown (Loose n) v = record { number = 0; first = 1; second = n; budgets = v }
 shown (Tight n) v = record { number = 0; first = 2; second = n; budgets = v }
+shown (Mixed n) v = record { number = 0; first = 3; second = n; budgets = v }
 shown (Length n) v = record { number = 1; first = n; second = 0; budgets = v }
 shown (Row i) v = record { number = 2; first = i; second = 0; budgets = v }
 shown (Overload t d) v = record { number = 3; first = t; second = d; budgets = v }
@@ -50,6 +51,7 @@ shows-of a n s = by (a .verdict) s
     by : (v : Verdict) → Shows v n → shown v (a .budgets) ≡ record { number = n .number; first = n .first; second = n .second; budgets = a .budgets }
     by (Loose r) s = rw (s .number, s .first, s .second)
     by (Tight r) s = rw (s .number, s .first, s .second)
+    by (Mixed r) s = rw (s .number, s .first, s .second)
     by (Length r) s = rw (s .number, s .first, s .second)
     by (Row r) s = rw (s .number, s .first, s .second)
     by (Overload t d) s = rw (s .number, s .first, s .second)
@@ -121,6 +123,14 @@ module _ (τ : TaskSet) (b : Budgets) (e : b ≡ budgetsOf τ) where
   unfolding budgetsOf
   is-loose = ap (λ z. z .loose) e
 
+  pub heavy-kind : (f : Bool) → b .firm ≡ f → heavyKind τ ≡ cond f 3 2
+  unfolding budgetsOf heavyKind
+  heavy-kind f t = ap (λ (x : Bool). cond x 3 2) (sym (ap (λ z. z .firm) e) ∙ t)
+
+  pub is-marks : b .brittle ≡ marksOf τ
+  unfolding budgetsOf
+  is-marks = ap (λ z. z .brittle) e
+
   pub is-values : b .values ≡ valuesOf τ
   unfolding budgetsOf
   is-values = ap (λ z. z .values) e
@@ -158,11 +168,20 @@ module _ (τ : TaskSet) (b : Budgets) (e : b ≡ budgetsOf τ) where
     unfolding opinionOf settled
     judge-unsettled a z h g = simp (g, sym is-loose ∙ no, found-none z, lt-leb (busyLength τ) horizon (omega (arith, s .is)))
 
-    pub judge-tight : (n : ℕ) → n ≡ τ .rows → f .at ≡ 0 → y .length ≤ 1000000 → shownOf (record { verdict = Tight n; budgets = b .values }) ≡ opinionOf τ
+    -- the kind k of a table that is not loose
+    judge-heavy : (k : ℕ) → heavyKind τ ≡ k → f .at ≡ 0 → y .length ≤ 1000000 → admitted k τ ≡ opinionOf τ
     unfolding opinionOf settled
-    judge-tight n k z h = simp (sym is-loose ∙ no, found-none z, le-leb (busyLength τ) horizon (omega (arith, s .is)), k, is-values)
+    judge-heavy k q z h = simp (sym is-loose ∙ no, found-none z, le-leb (busyLength τ) horizon (omega (arith, s .is)), q)
 
-pub ruleset judge-cases = (judge-loose, judge-overload, judge-unsettled, judge-tight)
+    pub judge-mixed : (n : ℕ) → n ≡ τ .rows → f .at ≡ 0 → y .length ≤ 1000000 → b .firm ≡ true
+        → shownOf (record { verdict = Mixed n; budgets = b .values }) ≡ opinionOf τ
+    judge-mixed n k z h t = rw (k, is-values) (judge-heavy 3 (heavy-kind true t) z h)
+
+    pub judge-tight : (n : ℕ) → n ≡ τ .rows → f .at ≡ 0 → y .length ≤ 1000000 → b .firm ≡ false
+        → shownOf (record { verdict = Tight n; budgets = b .values }) ≡ opinionOf τ
+    judge-tight n k z h t = rw (k, is-values) (judge-heavy 2 (heavy-kind false t) z h)
+
+pub ruleset judge-cases = (judge-loose, judge-overload, judge-unsettled, judge-mixed, judge-tight)
 
 -- ---- and for any slice
 

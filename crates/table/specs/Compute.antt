@@ -17,7 +17,7 @@ use Rattle.edf.specs.Demand.{TaskSet, demand, request}
 use Rattle.table.specs.Rows.{horizon, tasksOf, firstBroken}
 use Rattle.table.specs.Budgets.{loose}
 use Rattle.table.specs.Busy.{busyLength}
-use Rattle.table.specs.Verdict.{refusal, admitted, badLength, comparedTo, firstOverload, overloaded, settled, opinionOf, answerOf}
+use Rattle.table.specs.Verdict.{refusal, admitted, badLength, comparedTo, firstOverload, overloaded, settled, heavyKind, opinionOf, answerOf}
 use Rattle.table.specs.Assess.{overloaded-none, overloaded-first}
 
 -- up to n there is no busy length, and no tick is exceeded
@@ -71,7 +71,7 @@ module _ (l : List ℕ) (a : badLength (length l) ≡ false) (b : firstBroken (t
   unfolding answerOf opinionOf
   answer-over t d = simp (a, le-ltb (firstBroken (tasksOf l)) (tasksOf l .rows) (omega arith), c, d .1, d .0)
 
-  pub answer-tight : overloaded (tasksOf l) ≡ false → busyLength (tasksOf l) ≤ horizon → answerOf l ≡ admitted 2 (tasksOf l)
+  pub answer-heavy : overloaded (tasksOf l) ≡ false → busyLength (tasksOf l) ≤ horizon → answerOf l ≡ admitted (heavyKind (tasksOf l)) (tasksOf l)
   unfolding answerOf opinionOf settled
-  answer-tight d e =
+  answer-heavy d e =
       simp (a, le-ltb (firstBroken (tasksOf l)) (tasksOf l .rows) (omega arith), c, d, le-leb (busyLength (tasksOf l)) horizon e)

@@ -17,7 +17,7 @@ use Rattle.table.specs.Leap.{Leap, Further}
 use Rattle.table.specs.Busy.{busyLength}
 use Rattle.table.specs.Verdict.{comparedTo, overloaded, settled}
 use Rattle.table.specs.Assess.{overloaded-none}
-use Rattle.table.specs.Theorems.{tight-fits}
+use Rattle.table.specs.Theorems.{settled-fits}
 
 -- x is a stretch from a to e that is no shorter than its request; or 1,000,001, and there is none
 pub data Climbed (τ : TaskSet) (a e : ℕ) : ℕ → Type 0 where
@@ -142,4 +142,4 @@ module _ (τ : TaskSet) (fit : Fit τ) where
     fits-by clear = overloaded-none τ (λ t l h. clear t l (omega (arith, busy-below)))
 
     pub over-by : (t : ℕ) → t < demand τ t → overloaded τ ≡ true
-    over-by t o = both (overloaded τ) (λ e. e) (λ e. absurd (omega (arith, o, tight-fits τ fit e settled-by t)))
+    over-by t o = both (overloaded τ) (λ e. e) (λ e. absurd (omega (arith, o, settled-fits τ fit e settled-by t)))

@@ -1,13 +1,23 @@
 -- What an answer on a table means, for every slice of numbers (docs/SPECIFICATION.md §3, §4). Statements only.
 use Prim.Native.Nat.{ℕ, _+_, _*_, _≤_, _<_}
 use mathlib.Core.Path.{_≡_}
-use mathlib.Core.Bool.{false}
+use mathlib.Core.Bool.{true, false}
 use mathlib.Core.List.{List}
 use lib.ListN.{length}
-use Rattle.edf.specs.Demand.{Feasible, Shortened, demand, request}
+use Rattle.edf.specs.Demand.{TaskSet, Feasible, Shortened, demand, request}
 use Rattle.edf.specs.Arrivals.{Unservable}
 use Rattle.table.specs.Rows.{horizon, tasksOf, firstBroken}
+use Rattle.table.specs.Budgets.{brittle}
 use Rattle.table.specs.Verdict.{badLength, answerOf}
+
+-- what each kind says of the rows: 1 loose, no row is brittle; 2 tight, each is; 3 mixed, some are and some are not
+pub data HasKind (τ : TaskSet) : ℕ → Type 0 where
+  isLoose : ((i : ℕ) → i < τ .rows → brittle τ i ≡ false) → HasKind τ 1
+  isTight : ((i : ℕ) → i < τ .rows → brittle τ i ≡ true) → HasKind τ 2
+  isMixed : (i j : ℕ) → i < τ .rows → brittle τ i ≡ true → j < τ .rows → brittle τ j ≡ false → HasKind τ 3
+
+abbrev pub KindMeans : Type 0
+KindMeans = (l : List ℕ) → answerOf l .number ≡ 0 → HasKind (tasksOf l) (answerOf l .first)
 
 -- no tick is asked for more than there is up to it, at any t whatever
 abbrev pub AdmittedFits : Type 0

@@ -1,6 +1,6 @@
 -- What an answer on a table means: the proofs of `Statement`, and the laws of answers. Assumes nothing.
 use Prim.Native.Nat.{ℕ, zero, suc, _≤_, _<_}
-use mathlib.Core.Path.{_≡_, refl, sym, ap, _∙_}
+use mathlib.Core.Path.{_≡_, refl, ap, _∙_}
 use mathlib.Core.Bool.{true, false, not}
 use mathlib.Core.List.{List}
 use mathlib.Core.Logic.{dite, _⊎_, inl, inr, ⊎-elim}
@@ -8,19 +8,18 @@ use native.Mathlib.Omega.{arith}
 use native.Mathlib.Decide.{decLe}
 use lib.Dec.{ltb}
 use lib.ListN.{length}
-use borrow.Author.Tests.{leb-true, leb-false, ltb-true, ltb-false, le-ltb, not-true}
+use borrow.Author.Tests.{leb-true, leb-false, ltb-true, ltb-false, le-ltb, not-true, not-false}
 use Rattle.bounded.specs.Tests.{both}
-use Rattle.bounded.specs.All.{all-at}
+use Rattle.bounded.specs.All.{all-at, all-not}
 use Rattle.bounded.specs.Least.{least-at, least-before}
 use Rattle.bounded.specs.Fixed.{fixed-low, fixed-at, fixed-before}
-use Rattle.bounded.specs.Signed.{negative, difference-negative}
-use Rattle.edf.specs.Demand.{TaskSet, Feasible, demand, request, interference, demand-start, demand-due, demand-shortened, busy-suffices, loose-suffices}
+use Rattle.edf.specs.Demand.{TaskSet, Feasible, demand, request, demand-start, demand-due, demand-shortened, busy-suffices, loose-suffices}
 use Rattle.edf.specs.Overload.{overload}
 use Rattle.table.specs.Rows.{horizon, tasksOf, firstBroken, Fit, fit-of, fit-lawful}
-use Rattle.table.specs.Budgets.{budgetOf, loose, looseTo, valuesOf}
+use Rattle.table.specs.Budgets.{brittle, loose, looseTo, firm, firmTo, valuesOf, firm-row, loose-firm}
 use Rattle.table.specs.Busy.{busyLength}
-use Rattle.table.specs.Statement.{AdmittedFits, OverloadDeserved, UnsettledMeans, FittingRefused, FirstOverload, OverloadDue, ShortenedLater}
-use Rattle.table.specs.Verdict.{Answer, refusal, admitted, badLength, comparedTo, firstOverload, overloaded, settled, opinionOf, answerOf}
+use Rattle.table.specs.Statement.{HasKind, KindMeans, AdmittedFits, OverloadDeserved, UnsettledMeans, FittingRefused, FirstOverload, OverloadDue, ShortenedLater}
+use Rattle.table.specs.Verdict.{Answer, refusal, admitted, badLength, comparedTo, firstOverload, overloaded, settled, heavyKind, opinionOf, answerOf}
 use Rattle.table.specs.Assess.{shownOf, Shows, shows-answer, length-fit}
 use Rattle.table.specs.declared.Numbers.{Numbers}
 use Rattle.table.specs.declared.Assessment.{Assessment}
@@ -31,7 +30,7 @@ use Rattle.table.specs.declared.Assessment.{Assessment}
 data Opinion (τ : TaskSet) : Answer → Type 0 where
   isLoose : loose τ ≡ true → Opinion τ (admitted 1 τ)
   isOver : overloaded τ ≡ true → Opinion τ (refusal 3 (firstOverload τ) (demand τ (firstOverload τ)))
-  isTight : overloaded τ ≡ false → settled τ ≡ true → Opinion τ (admitted 2 τ)
+  isHeavy : loose τ ≡ false → overloaded τ ≡ false → settled τ ≡ true → Opinion τ (admitted (heavyKind τ) τ)
   isUnsettled : overloaded τ ≡ false → settled τ ≡ false → Opinion τ (refusal 4 horizon 0)
 
 opinion-case : (τ : TaskSet) → Opinion τ (opinionOf τ)
@@ -39,7 +38,7 @@ unfolding opinionOf
 opinion-case τ =
     both (loose τ) (λ e. simp e (isLoose e))
     (λ e. both (overloaded τ) (λ f. simp (e, f) (isOver f))
-    (λ f. both (settled τ) (λ g. simp (e, f, g) (isTight f g)) (λ g. simp (e, f, g) (isUnsettled f g))))
+    (λ f. both (settled τ) (λ g. simp (e, f, g) (isHeavy e f g)) (λ g. simp (e, f, g) (isUnsettled f g))))
 
 -- what is known of any slice
 data Outcome (l : List ℕ) : Answer → Type 0 where
@@ -65,9 +64,9 @@ answer-lawful l = by (outcome l)
     by isRow p q = absurd (q refl)
     by (isFit fit o) p q = (fit, o)
 
--- a table that is admitted is loose or tight,
+-- a table that is admitted is loose, or its demand was compared up to its busy length,
 abbrev Admits : TaskSet → Answer → Type 0
-Admits τ a = ((loose τ ≡ true) × (a ≡ admitted 1 τ)) ⊎ ((overloaded τ ≡ false) × (settled τ ≡ true) × (a ≡ admitted 2 τ))
+Admits τ a = ((loose τ ≡ true) × (a ≡ admitted 1 τ)) ⊎ ((loose τ ≡ false) × (overloaded τ ≡ false) × (settled τ ≡ true) × (a ≡ admitted (heavyKind τ) τ))
 
 pub answer-as : (l : List ℕ) → answerOf l .number ≡ 0 → Fit (tasksOf l) × Admits (tasksOf l) (answerOf l)
 answer-as l z = let o = answer-lawful l (λ e. omega arith) (λ e. omega arith) in (o .0, by (o .1) z)
@@ -75,8 +74,12 @@ answer-as l z = let o = answer-lawful l (λ e. omega arith) (λ e. omega arith) 
     by : {a : Answer} → Opinion (tasksOf l) a → a .number ≡ 0 → Admits (tasksOf l) a
     by (isLoose e) z = inl (e, refl)
     by (isOver e) z = absurd (omega arith)
-    by (isTight e f) z = inr (e, f, refl)
+    by (isHeavy n e f) z = inr (n, e, f, refl)
     by (isUnsettled e f) z = absurd (omega arith)
+
+-- so its rows keep their rule,
+pub answer-fit : (l : List ℕ) → answerOf l .number ≡ 0 → Fit (tasksOf l)
+answer-fit l e = answer-as l e .0
 
 -- one refused with 3 is overloaded,
 answer-exceeded : (l : List ℕ) → answerOf l .number ≡ 3
@@ -88,7 +91,7 @@ answer-exceeded l z = let o = answer-lawful l (λ e. omega arith) (λ e. omega a
         → (overloaded (tasksOf l) ≡ true) × (a ≡ refusal 3 (firstOverload (tasksOf l)) (demand (tasksOf l) (firstOverload (tasksOf l))))
     by (isLoose e) z = absurd (omega arith)
     by (isOver e) z = (e, refl)
-    by (isTight e f) z = absurd (omega arith)
+    by (isHeavy n e f) z = absurd (omega arith)
     by (isUnsettled e f) z = absurd (omega arith)
 
 -- and one refused with 4 has no busy length
@@ -99,20 +102,15 @@ answer-unsettled l z = let o = answer-lawful l (λ e. omega arith) (λ e. omega 
     by : {a : Answer} → Opinion (tasksOf l) a → a .number ≡ 4 → (overloaded (tasksOf l) ≡ false) × (settled (tasksOf l) ≡ false)
     by (isLoose e) z = absurd (omega arith)
     by (isOver e) z = absurd (omega arith)
-    by (isTight e f) z = absurd (omega arith)
+    by (isHeavy n e f) z = absurd (omega arith)
     by (isUnsettled e f) z = (e, f)
 
 -- ---- what they say of the demand
 
 module _ (τ : TaskSet) (fit : Fit τ) where
   pub loose-fits : loose τ ≡ true → Feasible τ
-  unfolding loose looseTo budgetOf
   loose-fits e =
-      loose-suffices τ (fit-lawful τ fit)
-      (λ i l.
-      ltb-false (τ .D i) _
-      (sym (difference-negative (τ .D i) (τ .C i) (interference τ i (τ .D i)))
-      ∙ not-true (negative (budgetOf τ i)) (all-at (λ i. not (negative (budgetOf τ i))) (τ .rows) e i l)))
+      loose-suffices τ (fit-lawful τ fit) (λ i l. firm-row τ i (loose-firm τ e i l))
 
   -- where the range is not overloaded, no tick of it is exceeded
   pub compared-fits : overloaded τ ≡ false → (t : ℕ) → 1 ≤ t → t ≤ comparedTo τ → demand τ t ≤ t
@@ -121,9 +119,9 @@ module _ (τ : TaskSet) (fit : Fit τ) where
       ltb-false t (demand τ t)
       (least-before (λ t. ltb t (demand τ t)) 1 (comparedTo τ) t l (omega (arith, leb-false (firstOverload τ) (comparedTo τ) e)))
 
-  pub tight-fits : overloaded τ ≡ false → settled τ ≡ true → Feasible τ
+  pub settled-fits : overloaded τ ≡ false → settled τ ≡ true → Feasible τ
   unfolding settled comparedTo busyLength
-  tight-fits e s =
+  settled-fits e s =
       let h = leb-true (busyLength τ) horizon s in
       busy-suffices τ (fit-lawful τ fit) (busyLength τ) (fixed-low (request τ) horizon) (omega (arith, fixed-at (request τ) horizon h))
       (λ t l k. compared-fits e t l (omega arith))
@@ -147,12 +145,29 @@ module _ (τ : TaskSet) (fit : Fit τ) where
   unfolding settled busyLength
   unsettled-long s r l h = fixed-before (request τ) horizon r l (omega (arith, leb-false (busyLength τ) horizon s))
 
+  -- ---- what they say of the rows
+
+  heavy-means : loose τ ≡ false → HasKind τ (heavyKind τ)
+  unfolding heavyKind firm firmTo loose looseTo
+  heavy-means e =
+      let i = all-not (λ i. not (brittle τ i)) (τ .rows) e in
+      both (firm τ)
+      (λ f.
+      let j = all-not (brittle τ) (τ .rows) (not-true _ f) in
+      simp f (HasKind.isMixed (i .0) (j .0) (i .1) (not-false _ (i .2)) (j .1) (j .2)))
+      (λ f. simp f (HasKind.isTight (all-at (brittle τ) (τ .rows) (not-false _ f))))
+
 -- ---- the theorems
+
+pub kind-means : KindMeans
+kind-means l e =
+    ⊎-elim (λ a. rw (ap (λ (x : Answer). x .first) (a .1)) (HasKind.isLoose (loose-firm (tasksOf l) (a .0))))
+    (λ a. rw (ap (λ (x : Answer). x .first) (a .3)) (heavy-means (tasksOf l) (answer-fit l e) (a .0))) (answer-as l e .1)
 
 pub admitted-fits : AdmittedFits
 admitted-fits l e =
     let a = answer-as l e in
-    ⊎-elim (λ b. loose-fits (tasksOf l) (a .0) (b .0)) (λ b. tight-fits (tasksOf l) (a .0) (b .0) (b .1)) (a .1)
+    ⊎-elim (λ b. loose-fits (tasksOf l) (a .0) (b .0)) (λ b. settled-fits (tasksOf l) (a .0) (b .1) (b .2)) (a .1)
 
 pub overload-deserved : OverloadDeserved
 overload-deserved l e =
@@ -197,18 +212,15 @@ fitting-refused l a b fits =
         → (r .number ≡ 4) × ((r : ℕ) → 1 ≤ r → r ≤ horizon → request (tasksOf l) r ≡ r → ⊥)
     by fit (isLoose x) ne = absurd (ne refl)
     by fit (isOver x) ne = absurd (omega (arith, overload-exceeded (tasksOf l) fit x, fits (firstOverload (tasksOf l))))
-    by fit (isTight x y) ne = absurd (ne refl)
+    by fit (isHeavy n x y) ne = absurd (ne refl)
     by fit (isUnsettled x y) ne = (refl, unsettled-long (tasksOf l) fit y)
 
 -- ---- what callers use
 
--- an admitted table's rows keep their rule, and its answer has their budgets and their number
-pub answer-fit : (l : List ℕ) → answerOf l .number ≡ 0 → Fit (tasksOf l)
-answer-fit l e = answer-as l e .0
-
+-- an admitted table's answer has its rows' budgets and their number
 pub answer-admitted : (l : List ℕ) → answerOf l .number ≡ 0
     → (answerOf l .budgets ≡ valuesOf (tasksOf l)) × (answerOf l .second ≡ tasksOf l .rows)
-answer-admitted l e = ⊎-elim (λ b. by 1 (b .1)) (λ b. by 2 (b .2)) (answer-as l e .1)
+answer-admitted l e = ⊎-elim (λ b. by 1 (b .1)) (λ b. by (heavyKind (tasksOf l)) (b .3)) (answer-as l e .1)
   where
     by : (k : ℕ) → answerOf l ≡ admitted k (tasksOf l)
         → (answerOf l .budgets ≡ valuesOf (tasksOf l)) × (answerOf l .second ≡ tasksOf l .rows)

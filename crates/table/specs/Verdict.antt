@@ -8,7 +8,7 @@ use lib.ListN.{length, replicate}
 use Rattle.bounded.specs.Least.{leastFrom}
 use Rattle.edf.specs.Demand.{TaskSet, demand}
 use Rattle.table.specs.Rows.{horizon, tasksOf, firstBroken}
-use Rattle.table.specs.Budgets.{loose, valuesOf}
+use Rattle.table.specs.Budgets.{loose, firm, valuesOf}
 use Rattle.table.specs.Busy.{busyLength}
 
 -- an answer on a table: its number, 0 where the table is admitted; two values; and V of each row
@@ -22,7 +22,7 @@ pub record Answer : Type 0 where
 abbrev pub refusal : ℕ → ℕ → ℕ → Answer
 refusal n a b = record { number = n; first = a; second = b; budgets = replicate 16 (pos 0) }
 
--- an admitted table's values are its kind, 1 loose and 2 tight, and its number of rows
+-- an admitted table's values are its kind, 1 loose, 2 tight and 3 mixed, and its number of rows
 abbrev pub admitted : ℕ → TaskSet → Answer
 admitted kind τ = record { number = 0; first = kind; second = τ .rows; budgets = valuesOf τ }
 
@@ -46,11 +46,15 @@ overloaded τ = leb (firstOverload τ) (comparedTo τ)
 unfoldable pub settled : TaskSet → Bool
 settled τ = leb (busyLength τ) horizon
 
+-- the kind of a table that is admitted and not loose: mixed where some V is not negative, and otherwise tight
+unfoldable pub heavyKind : TaskSet → ℕ
+heavyKind τ = cond (firm τ) 3 2
+
 -- the verdict on 1 to 16 rows that keep their rule
 unfoldable pub opinionOf : TaskSet → Answer
 opinionOf τ =
     cond (loose τ) (admitted 1 τ)
-    (cond (overloaded τ) (refusal 3 (firstOverload τ) (demand τ (firstOverload τ))) (cond (settled τ) (admitted 2 τ) (refusal 4 horizon 0)))
+    (cond (overloaded τ) (refusal 3 (firstOverload τ) (demand τ (firstOverload τ))) (cond (settled τ) (admitted (heavyKind τ) τ) (refusal 4 horizon 0)))
 
 -- the verdict on any slice of numbers, the lower number first
 unfoldable pub answerOf : List ℕ → Answer
@@ -58,7 +62,7 @@ answerOf l =
     cond (badLength (length l)) (refusal 1 (length l) 0)
     (cond (ltb (firstBroken (tasksOf l)) (tasksOf l .rows)) (refusal 2 (firstBroken (tasksOf l)) 0) (opinionOf (tasksOf l)))
 
--- the kind that an answer admits a table as, 1 loose and 2 tight; 0 where it is a refusal
+-- the kind that an answer admits a table as; 0 where it is a refusal
 abbrev pub kindIn : Answer → ℕ
 kindIn a = cond (eqb (a .number) 0) (a .first) 0
 

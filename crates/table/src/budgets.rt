@@ -1,5 +1,6 @@
 // V of each row, the inversion budget: how long later jobs may run before a waiting one (docs/SPECIFICATION.md §2.2).
 ghost use mathlib.Core.Path.{_≡_};
+ghost use mathlib.Core.Bool.{not, _&&_, _||_};
 ghost use Prim.Native.Nat.{_+_, _<_, _≤_, _^_};
 ghost use lib.IntN.{natAbs};
 ghost use Rattle.bounded.specs.Signed.{difference, negative};
@@ -7,15 +8,17 @@ ghost use Rattle.edf.specs.Demand.{interference};
 ghost use Rattle.table.specs.Rows.{tasksOf, Fit};
 ghost use Rattle.bounded.specs.Within.{Within};
 ghost use Rattle.table.specs.Inverse.{Inverses};
-ghost use Rattle.table.specs.Budgets.{chargeOf, budgetOf, putOf, budgetsOf};
+ghost use Rattle.table.specs.Budgets.{chargeOf, budgetOf, budgetsOf};
 use super::request::row_request;
 use super::rows::count;
 use super::rows::fit_row;
 
-// The rows' V, 0 past the last row, and whether none of them is negative.
+// The rows' V, 0 past the last row; which of them are negative, and whether none is or some is not.
 pub struct Budgets {
     pub values: [i64; 16],
+    pub brittle: [bool; 16],
     pub loose: bool,
+    pub firm: bool,
 }
 
 // What row j can take of row i in a stretch x: nothing where it is row i itself.
@@ -80,16 +83,24 @@ pub fn value_of(words: &[u32], inverses: &[u64; 16], i: usize) -> i64
     minus(k.deadline, k.run, sum)
 }
 
-fn put(b: Budgets, i: usize, v: i64) -> Budgets
-    requires { ⌜ i < 16 ⌝ }
-    ensures { λ r. ⌜ r ≡ putOf b i v ⌝ }
+// Whether no row so far is brittle, a, and not the next one either.
+fn still_loose(a: bool, negative: bool) -> bool
+    ensures { λ r. ⌜ r ≡ a && not negative ⌝ }
 {
-    let mut next = b;
-    next.values[i] = v;
-    if below_zero(v) {
-        next.loose = false;
+    if negative {
+        return false;
     }
-    next
+    a
+}
+
+// Whether some row so far is not brittle, a, or the next one is not.
+fn now_firm(a: bool, negative: bool) -> bool
+    ensures { λ r. ⌜ r ≡ a || not negative ⌝ }
+{
+    if negative {
+        return a;
+    }
+    true
 }
 
 // V of every row. Internal: `assess` tests the rows first, which keeps each sum from wrapping.
@@ -100,12 +111,18 @@ pub fn all_budgets(words: &[u32], inverses: &[u64; 16]) -> Budgets
     let n = count(words);
     let mut b = Budgets {
         values: [0i64; 16],
+        brittle: [false; 16],
         loose: true,
+        firm: false,
     };
     let mut i: usize = 0;
     while i < n {
         let v = value_of(words, inverses, i);
-        b = put(b, i, v);
+        let negative = below_zero(v);
+        b.values[i] = v;
+        b.brittle[i] = negative;
+        b.loose = still_loose(b.loose, negative);
+        b.firm = now_firm(b.firm, negative);
         i = i + 1;
     }
     b

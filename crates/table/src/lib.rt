@@ -19,10 +19,11 @@ pub mod rows;
 mod settle;
 mod sieve;
 
-// The two kinds of an admitted table, and the four refusals (docs/SPECIFICATION.md §3; `shownOf` gives their numbers).
+// The three kinds of an admitted table, and the four refusals (docs/SPECIFICATION.md §3; `shownOf` gives their numbers).
 pub enum Verdict {
     Loose { rows: usize },
     Tight { rows: usize },
+    Mixed { rows: usize },
     // The slice's length is none that a table has.
     Length(usize),
     // The first row that breaks its rule.
@@ -58,6 +59,11 @@ pub fn shown(verdict: Verdict) -> Numbers
         Verdict::Tight { rows } => Numbers {
             number: 0,
             first: 2,
+            second: rows as u64,
+        },
+        Verdict::Mixed { rows } => Numbers {
+            number: 0,
+            first: 3,
             second: rows as u64,
         },
         Verdict::Length(n) => Numbers {
@@ -138,6 +144,12 @@ fn judge(words: &[u32]) -> Assessment
     }
     if 1000000 < busy.length {
         return refused(Verdict::Unsettled);
+    }
+    if b.firm {
+        return Assessment {
+            verdict: Verdict::Mixed { rows },
+            budgets: values,
+        };
     }
     Assessment {
         verdict: Verdict::Tight { rows },

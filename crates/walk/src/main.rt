@@ -189,7 +189,7 @@ const SIXTEEN: [u32; 48] = [
     400,
 ];
 
-// 16 rows, tight: one short deadline among rows that use up most of the time.
+// 16 rows, mixed: one brittle row, with a short deadline, among rows that use up most of the time.
 const FULL: [u32; 48] = [
     1,
     40,

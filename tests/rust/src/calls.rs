@@ -2,7 +2,7 @@
 //! in one call.
 
 use crate::session::{Choice, Job, Session, Slot, CLOCK_END, IDLE};
-use crate::table::{Kind, HORIZON};
+use crate::table::HORIZON;
 
 /// A call with its arguments.
 #[derive(Clone, Copy, Debug, PartialEq, Eq)]
@@ -121,14 +121,32 @@ pub fn candidates(session: &Session) -> Vec<u32> {
 
 /// The candidates among all waiting rows, which stand in this order.
 pub fn candidates_among(session: &Session, waiting: Vec<u32>) -> Vec<u32> {
+    let brittle = session.brittle_deadline();
+    candidates_where(session, waiting, |row| is_due_by(session, row, brittle))
+}
+
+/// The same, but for the rule by which a job, or idle, may run before the head although
+/// brittle jobs are to come.
+pub fn candidates_where(
+    session: &Session,
+    waiting: Vec<u32>,
+    may_precede: impl Fn(u32) -> bool,
+) -> Vec<u32> {
     let mut candidates: Vec<u32> = waiting.into_iter().chain([IDLE]).collect();
     let head = candidates[0];
     // With nothing waiting the head is idle, which has no budget to spend.
     let head_can_wait = session.job(head).is_some_and(|job| job.budget >= 1);
     candidates.retain(|row| {
-        *row == head || head_can_wait && session.earlier(*row).all(|job| job.budget >= 1)
+        let all_can_wait = head_can_wait && session.earlier(*row).all(|job| job.budget >= 1);
+        *row == head || all_can_wait && may_precede(*row)
     });
     candidates
+}
+
+/// Whether a row's job is due no later than the next job of any brittle row can be.
+/// Idle, which is never due, is not where there are such rows.
+fn is_due_by(session: &Session, row: u32, brittle: Option<u64>) -> bool {
+    brittle.is_none_or(|brittle| session.job(row).is_some_and(|job| job.due <= brittle))
 }
 
 fn choose(session: &mut Session, words: &[u32]) -> Answer {
@@ -242,14 +260,12 @@ fn finish(session: &mut Session) -> Answer {
     let (due, unused) = (job.due, job.left);
     session.slots[choice.row as usize].job = None;
     session.choice = None;
-    if session.kind == Kind::Loose {
-        give(session, due, unused);
-    }
+    give(session, due, unused);
     Answer::accepted(u64::from(choice.row), unused)
 }
 
 /// Each waiting job of strictly later deadline gains the unused ticks as
-/// budget, never above its D − C.
+/// budget, never above its limit. That of a brittle row is 0, so it gains nothing.
 fn give(session: &mut Session, due: u64, unused: u64) {
     for row in 0..session.slots.len() {
         let limit = session.budget_limit(row);

@@ -22,6 +22,9 @@ const EQUAL: u64 = 20;
 /// Of all inputs, one in so many must have a finish of a tight session at which
 /// a waiting job of later deadline gains nothing.
 const TIGHT: u64 = 20;
+/// Of all inputs, one in so many must have a finish of a mixed session at which a
+/// waiting job of later deadline gains nothing, since its row is brittle.
+const BRITTLE: u64 = 20;
 
 /// What a finish gives to another waiting job, and why not more.
 #[derive(Clone, Copy, Debug, PartialEq, Eq)]
@@ -38,10 +41,12 @@ pub enum Share {
     Equal,
     /// None, since the session is tight; its deadline is later.
     Tight,
+    /// None, since the session is mixed and its row brittle; its deadline is later.
+    Brittle,
 }
 
 impl Share {
-    fn is_gain(self) -> bool {
+    pub fn is_gain(self) -> bool {
         matches!(self, Share::Whole | Share::Part)
     }
 }
@@ -68,6 +73,7 @@ fn share_of(session: &Session, finished: &Job, row: u32) -> Option<Share> {
         Ordering::Less => Share::Earlier,
         Ordering::Equal => Share::Equal,
         Ordering::Greater if session.kind == Kind::Tight => Share::Tight,
+        Ordering::Greater if session.is_brittle(row as usize) => Share::Brittle,
         Ordering::Greater if room == 0 => Share::Full,
         Ordering::Greater if room < finished.left as i64 => Share::Part,
         Ordering::Greater => Share::Whole,
@@ -75,7 +81,7 @@ fn share_of(session: &Session, finished: &Job, row: u32) -> Option<Share> {
 }
 
 /// NOT the product's rule: performs a command, but a finish gives nothing.
-fn wrong_execute_without_gifts(machine: &mut Machine, command: Command) -> Outcome {
+pub fn wrong_execute_without_gifts(machine: &mut Machine, command: Command) -> Outcome {
     if command != Command::Finish {
         return machine.execute(command);
     }
@@ -102,6 +108,8 @@ pub struct Gifts {
     pub equal: bool,
     /// At some finish of a tight session a later job gained nothing.
     pub tight: bool,
+    /// At some finish of a mixed session a later job of a brittle row gained nothing.
+    pub brittle: bool,
     /// The jobs that gained so far, each by its row and deadline.
     gaining: HashSet<(u32, u64)>,
 }
@@ -116,6 +124,7 @@ impl Gifts {
         for (row, share) in shares(session) {
             self.equal |= share == Share::Equal;
             self.tight |= share == Share::Tight;
+            self.brittle |= share == Share::Brittle;
             if let Some(job) = session.job(row).filter(|_| share.is_gain()) {
                 self.given = true;
                 self.several |= !self.gaining.insert((row, job.due));
@@ -138,6 +147,7 @@ pub struct GiftTally {
     shown: u64,
     equal: u64,
     tight: u64,
+    brittle: u64,
 }
 
 impl GiftTally {
@@ -148,6 +158,7 @@ impl GiftTally {
         self.shown += u64::from(gifts.shown);
         self.equal += u64::from(gifts.equal);
         self.tight += u64::from(gifts.tight);
+        self.brittle += u64::from(gifts.brittle);
     }
 
     pub fn merge(&mut self, other: GiftTally) {
@@ -157,6 +168,7 @@ impl GiftTally {
         self.shown += other.shown;
         self.equal += other.equal;
         self.tight += other.tight;
+        self.brittle += other.brittle;
     }
 
     /// Which of the counts are too low for a comparison that means something.
@@ -167,6 +179,7 @@ impl GiftTally {
             (self.shown, SHOWING, "show a gain in an answer"),
             (self.equal, EQUAL, "finish beside an equal deadline"),
             (self.tight, TIGHT, "finish before a later job when tight"),
+            (self.brittle, BRITTLE, "finish before a later brittle job"),
         ];
         too_rare(self.inputs, &counts)
     }
@@ -178,8 +191,8 @@ impl fmt::Display for GiftTally {
             formatter,
             "a finish gives to a later job in {} inputs, in {} of them more than once to one job, \
             and {} show it in an answer; a job gains nothing in {} inputs since its deadline is \
-            equal, in {} since the session is tight",
-            self.given, self.several, self.shown, self.equal, self.tight
+            equal, in {} since the session is tight, in {} since its row is brittle",
+            self.given, self.several, self.shown, self.equal, self.tight, self.brittle
         )
     }
 }
@@ -200,13 +213,14 @@ const fn sort(name: &'static str, shares: &'static [Share], one_in: u64) -> Sort
     }
 }
 
-const SORTS: [Sort; 6] = [
+const SORTS: [Sort; 7] = [
     sort("give to some job", &[Share::Whole, Share::Part], 400),
     sort("give a part up to the limit", &[Share::Part], 10_000),
     sort("give nothing at the limit", &[Share::Full], 2_500),
     sort("give nothing to an earlier job", &[Share::Earlier], 1_500),
     sort("give nothing to an equal deadline", &[Share::Equal], 400),
-    sort("give nothing since it is tight", &[Share::Tight], 250),
+    sort("give nothing since it is tight", &[Share::Tight], 2_000),
+    sort("give nothing to a brittle row", &[Share::Brittle], 400),
 ];
 
 /// How many accepted finishes are of each sort.

@@ -8,8 +8,8 @@ use crate::runs::{extend, Style};
 use crate::specification::plain;
 use crate::table::{self, admit_rows, Row, HORIZON, ROW_LIMIT};
 use crate::tables::{
-    admitted, admitted_as, any_rows, full_rows, light_rows, long_busy_rows, roomy_rows, small_rows,
-    staggered_rows, RowMaker,
+    admitted, admitted_as, any_rows, close_rows, full_rows, light_rows, long_busy_rows,
+    part_brittle_rows, roomy_rows, small_rows, staggered_rows, RowMaker,
 };
 use crate::text::{Command, Machine, INPUT_LIMIT, WORD_LIMIT};
 use crate::words::more_words;
@@ -36,8 +36,13 @@ pub const KINDS: &[Kind] = &[
     kind("ties", 300, loose_ties),
     kind("tight-ties", 120, tight_ties),
     kind("gifts", 300, loose_gifts),
-    kind("tight-gifts", 60, tight_gifts),
-    kind("draws", 300, long_draws),
+    kind("tight-gifts", 160, tight_gifts),
+    kind("draws", 420, long_draws),
+    kind("mixed-runs", 80, mixed_run),
+    kind("mixed-limits", 360, long_limits),
+    kind("mixed-ties", 80, mixed_ties),
+    kind("mixed-gifts", 180, mixed_gifts),
+    kind("mixed-draws", 140, mixed_draws),
     kind("word-lists", 20, word_lists),
     kind("damaged", 150, damaged_run),
     kind("numbers", 60, odd_number),
@@ -145,7 +150,53 @@ fn tight_ties(rng: &mut Rng) -> Vec<u8> {
     timed_run(rng, &rows, 120)
 }
 
-/// A short run of either kind of table in which deadlines meet.
+/// A table some of whose rows, but not all, are brittle: often one that is made for
+/// it, else a small or a full one.
+fn mixed_rows(rng: &mut Rng) -> Vec<Row> {
+    let makers: [RowMaker; 6] = [
+        part_brittle_rows,
+        part_brittle_rows,
+        part_brittle_rows,
+        close_rows,
+        small_rows,
+        full_rows,
+    ];
+    let make = rng.pick(&makers);
+    admitted_as(rng, make, table::Kind::Mixed)
+}
+
+fn mixed_run(rng: &mut Rng) -> Vec<u8> {
+    run_on_admitted(rng, mixed_rows, 100)
+}
+
+fn mixed_ties(rng: &mut Rng) -> Vec<u8> {
+    let makers: [RowMaker; 2] = [mixed_rows, staggered_rows];
+    let make = rng.pick(&makers);
+    let rows = admitted_as(rng, make, table::Kind::Mixed);
+    timed_run(rng, &rows, 120)
+}
+
+/// A run in which brittle jobs to come often decide what may run.
+fn limited_run(rng: &mut Rng, most_steps: u32) -> Vec<u8> {
+    let makers: [RowMaker; 2] = [mixed_rows, close_rows];
+    let make = rng.pick(&makers);
+    let mut driver = Driver::new(&admitted_as(rng, make, table::Kind::Mixed));
+    let style = Style::limiting(rng);
+    let steps = rng.between(20, most_steps) as usize;
+    extend(&mut driver, rng, style, steps);
+    driver.text
+}
+
+fn long_limits(rng: &mut Rng) -> Vec<u8> {
+    limited_run(rng, 160)
+}
+
+/// A short run in which brittle jobs to come often decide what may run.
+pub fn short_limits(rng: &mut Rng) -> Vec<u8> {
+    limited_run(rng, 60)
+}
+
+/// A short run of any kind of table in which deadlines meet.
 pub fn short_ties(rng: &mut Rng) -> Vec<u8> {
     let rows = admitted(rng, staggered_rows);
     timed_run(rng, &rows, 60)
@@ -154,7 +205,11 @@ pub fn short_ties(rng: &mut Rng) -> Vec<u8> {
 /// A run in which finishes leave time to the jobs behind. At least three rows,
 /// so that one waiting job can gain more than once.
 fn giving_run(rng: &mut Rng, kind: table::Kind, most_steps: u32) -> Vec<u8> {
-    let makers: [RowMaker; 3] = [light_rows, small_rows, staggered_rows];
+    let makers: [RowMaker; 3] = match kind {
+        table::Kind::Loose => [light_rows, small_rows, staggered_rows],
+        table::Kind::Tight => [full_rows, small_rows, staggered_rows],
+        table::Kind::Mixed => [mixed_rows, mixed_rows, staggered_rows],
+    };
     let make = rng.pick(&makers);
     let mut rows = Vec::new();
     while rows.len() < 3 {
@@ -176,14 +231,19 @@ fn tight_gifts(rng: &mut Rng) -> Vec<u8> {
     giving_run(rng, table::Kind::Tight, 120)
 }
 
+/// The same where finishes give to some rows alone.
+fn mixed_gifts(rng: &mut Rng) -> Vec<u8> {
+    giving_run(rng, table::Kind::Mixed, 120)
+}
+
 /// A short run in which finishes give.
 pub fn short_gifts(rng: &mut Rng) -> Vec<u8> {
     giving_run(rng, table::Kind::Loose, 60)
 }
 
 /// A run in which words lie near the limits of draws.
-fn drawing_run(rng: &mut Rng, most_steps: u32) -> Vec<u8> {
-    let mut driver = Driver::new(&roomy_rows(rng));
+fn drawing_run(rng: &mut Rng, make: RowMaker, most_steps: u32) -> Vec<u8> {
+    let mut driver = Driver::new(&make(rng));
     let style = Style::drawing(rng);
     let steps = rng.between(20, most_steps) as usize;
     extend(&mut driver, rng, style, steps);
@@ -191,12 +251,16 @@ fn drawing_run(rng: &mut Rng, most_steps: u32) -> Vec<u8> {
 }
 
 fn long_draws(rng: &mut Rng) -> Vec<u8> {
-    drawing_run(rng, 200)
+    drawing_run(rng, roomy_rows, 200)
+}
+
+fn mixed_draws(rng: &mut Rng) -> Vec<u8> {
+    drawing_run(rng, mixed_rows, 100)
 }
 
 /// A short run in which words lie near the limits of draws.
 pub fn short_draws(rng: &mut Rng) -> Vec<u8> {
-    drawing_run(rng, 40)
+    drawing_run(rng, roomy_rows, 40)
 }
 
 /// Choices between which many words are queued, most of them to be passed over.
@@ -215,14 +279,20 @@ fn word_lists(rng: &mut Rng) -> Vec<u8> {
 }
 
 fn long_run(rng: &mut Rng) -> Vec<u8> {
-    let makers: [RowMaker; 4] = [light_rows, small_rows, full_rows, staggered_rows];
+    let makers: [RowMaker; 5] = [
+        light_rows,
+        small_rows,
+        full_rows,
+        staggered_rows,
+        part_brittle_rows,
+    ];
     let make = rng.pick(&makers);
     run_on_admitted(rng, make, 12_000)
 }
 
 /// Idles to just below 2^32, so that clock and deadlines pass it.
 fn far_clock(rng: &mut Rng) -> Vec<u8> {
-    let makers: [RowMaker; 2] = [small_rows, staggered_rows];
+    let makers: [RowMaker; 3] = [small_rows, staggered_rows, part_brittle_rows];
     let make = rng.pick(&makers);
     let mut driver = Driver::new(&admitted(rng, make));
     let start = (1 << 32) - u64::from(rng.between(0, 40));
@@ -231,7 +301,7 @@ fn far_clock(rng: &mut Rng) -> Vec<u8> {
         driver.push(Command::Choose);
         driver.push(Command::Advance(ticks as u32));
     }
-    let styles: [fn(&mut Rng) -> Style; 2] = [Style::meeting, Style::giving];
+    let styles: [fn(&mut Rng) -> Style; 3] = [Style::meeting, Style::giving, Style::limiting];
     let style = rng.pick(&styles)(rng);
     extend(&mut driver, rng, style, 300);
     driver.text

@@ -10,6 +10,7 @@ pub mod gifts;
 pub mod hard;
 pub mod inputs;
 pub mod meter;
+pub mod mixed;
 pub mod options;
 pub mod overloaded;
 pub mod overloads;

@@ -43,6 +43,7 @@ pub fn view(record: &Record) -> Option<Session> {
     let kind = match record.kind {
         1 => Kind::Loose,
         2 => Kind::Tight,
+        3 => Kind::Mixed,
         _ => return None,
     };
     let count = usize::try_from(record.count).ok();

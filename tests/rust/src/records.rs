@@ -3,7 +3,7 @@
 
 use std::array::from_fn;
 
-use crate::record::{expected_budgets, store};
+use crate::record::{expected_budgets, store, view};
 use crate::rng::Rng;
 use crate::session::CLOCK_END;
 use crate::sessions::{random_table, sound_session};
@@ -30,7 +30,7 @@ pub fn random_record(rng: &mut Rng) -> Record {
         span: number(),
     };
     if rng.chance(3, 4) {
-        record.kind = u64::from(rng.between(1, 2));
+        record.kind = u64::from(rng.between(1, 3));
         record.count = u64::from(rng.between(1, 16));
     }
     if rng.chance(1, 2) {
@@ -160,7 +160,7 @@ pub fn displace(rng: &mut Rng, record: &mut Record) {
         span,
         ..
     } = *record;
-    match rng.below(12) {
+    match rng.below(14) {
         0 => {
             let arrival = job.next.wrapping_sub(u64::from(record.words[3 * row + 1]));
             record.clock = rng.around(&[0, clock, CLOCK_END, job.due, arrival]);
@@ -170,7 +170,22 @@ pub fn displace(rng: &mut Rng, record: &mut Record) {
         3 => record.chosen = rng.around(&[0, row as u64, count, 16, (1 << 32) + chosen]),
         4 => record.span = rng.around(&[0, span, job.left, job.budget, HORIZON, 1 << 32]),
         5 => displace_word(rng, record, row),
+        6..8 => fill_budget(rng, record),
         _ => displace_job(rng, record, row),
+    }
+}
+
+/// Sets the budget of a waiting job to its limit, or to one tick more.
+fn fill_budget(rng: &mut Rng, record: &mut Record) {
+    let Some(session) = view(record) else {
+        return;
+    };
+    let waiting = (0..session.slots.len()).filter(|row| session.slots[*row].job.is_some());
+    let waiting: Vec<usize> = waiting.collect();
+    if !waiting.is_empty() {
+        let row = rng.pick(&waiting);
+        let limit = session.budget_limit(row) as u64;
+        record.jobs[row].budget = limit + u64::from(rng.between(0, 1));
     }
 }
 

@@ -25,6 +25,9 @@ pub struct Style {
     /// Out of 8 of the steps that are left then, how many are made so that words
     /// lie near the limits of the draws to come.
     pub draws: usize,
+    /// Out of 8 of the steps that are left then, how many are made so that brittle jobs
+    /// to come decide what may run before the head.
+    pub brittle: usize,
     /// Out of 8 steps at which a chosen job may go on, how many finish it.
     pub finishes: usize,
 }
@@ -38,6 +41,7 @@ impl Style {
             meetings: rng.pick(&[0, 0, 0, 4]),
             gifts: 0,
             draws: 0,
+            brittle: 0,
             finishes: rng.pick(&[1, 1, 4]),
         }
     }
@@ -69,6 +73,15 @@ impl Style {
             ..Style::random(rng)
         }
     }
+
+    /// A style in which brittle jobs to come often decide what may run.
+    pub fn limiting(rng: &mut Rng) -> Self {
+        Style {
+            meetings: 0,
+            brittle: rng.pick(&[6, 7, 8]),
+            ..Style::random(rng)
+        }
+    }
 }
 
 /// Extends an input by random calls.
@@ -91,6 +104,8 @@ pub fn random_command(machine: &Machine, rng: &mut Rng, style: Style) -> Command
         giving_command(machine, rng)
     } else if rng.chance(style.draws, 8) {
         drawing_command(machine, rng, style)
+    } else if rng.chance(style.brittle, 8) {
+        limiting_command(machine, rng, style)
     } else {
         accepted_call(&machine.session, rng, style)
     }
@@ -231,6 +246,68 @@ fn drawing_command(machine: &Machine, rng: &mut Rng, style: Style) -> Command {
         Some(word) if rng.chance(3, 4) => Command::Word(word),
         _ => run_or_choose(session, rng, style),
     }
+}
+
+/// A command on the way to a choice, with a word for it, at which it matters when a
+/// brittle job to come can be due. A row that is not brittle is kept back, so that its
+/// arrival can drop the choice in force at such a moment.
+fn limiting_command(machine: &Machine, rng: &mut Rng, style: Style) -> Command {
+    let Machine { session, words } = machine;
+    let ready = ready_rows(session);
+    let mut others = ready.clone();
+    others.retain(|row| !session.is_brittle(*row as usize));
+    let kept_back = usize::from(session.waiting().count() >= 2);
+    let is_moment = session.choice.is_some() && is_at_limit(session);
+    if is_moment && !others.is_empty() {
+        return Command::Arrive(rng.pick(&others));
+    }
+    if others.len() > kept_back && rng.chance(style.arrivals, 8) {
+        return Command::Arrive(rng.pick(&others));
+    }
+    if !ready.is_empty() && rng.chance(1, 8) {
+        return Command::Arrive(rng.pick(&ready));
+    }
+    match session.choice {
+        None if words.is_empty() => Command::Word(rng.between(0, 40)),
+        Some(choice) if choice.row == IDLE || rng.chance(7, 8) => {
+            let moments = limit_ticks(session, choice.left);
+            if moments.is_empty() {
+                Command::Advance(accepted_ticks(session, rng, choice.left))
+            } else {
+                Command::Advance(rng.pick(&moments) as u32)
+            }
+        }
+        _ => run_or_choose(session, rng, style),
+    }
+}
+
+/// The deadlines of the waiting jobs but for the head.
+fn later_deadlines(session: &Session) -> Vec<u64> {
+    let rows = session.in_order().into_iter().skip(1);
+    rows.filter_map(|row| session.job(row).map(|job| job.due))
+        .collect()
+}
+
+/// Whether a job behind the head is due when a brittle one to come can be, or a tick
+/// later.
+fn is_at_limit(session: &Session) -> bool {
+    let limit = session.brittle_deadline();
+    let mut deadlines = later_deadlines(session).into_iter();
+    limit.is_some_and(|limit| deadlines.any(|due| due == limit || due == limit + 1))
+}
+
+/// Ticks below `left` after which a job behind the head is due when a brittle one can
+/// be that arrives then, or a tick later.
+fn limit_ticks(session: &Session, left: u64) -> Vec<u64> {
+    let brittle = (0..session.rows.len()).filter(|row| session.is_brittle(*row));
+    let due = later_deadlines(session);
+    let ticks = brittle.flat_map(|row| {
+        let now = session.clock + u64::from(session.rows[row].deadline);
+        due.iter()
+            .flat_map(move |due| [due.checked_sub(now), due.checked_sub(now + 1)])
+    });
+    let ticks = ticks.flatten();
+    ticks.filter(|ticks| (1..left).contains(ticks)).collect()
 }
 
 /// Whether a job waits for a later deadline than the chosen one.

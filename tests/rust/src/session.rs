@@ -51,20 +51,41 @@ impl Session {
         }
     }
 
+    /// Whether the V of a row is negative, in a session whose kind is right.
+    pub fn is_brittle(&self, row: usize) -> bool {
+        match self.kind {
+            Kind::Loose => false,
+            Kind::Tight => true,
+            Kind::Mixed => budget(&self.rows, row) < 0,
+        }
+    }
+
     /// The budget with which a job of this row arrives; finishes may add to it.
     pub fn arrival_budget(&self, row: usize) -> i64 {
-        match self.kind {
-            Kind::Loose => budget(&self.rows, row),
-            Kind::Tight => 0,
+        if self.is_brittle(row) {
+            return 0;
         }
+        budget(&self.rows, row)
     }
 
     /// The most that the budget of a job of this row can be.
     pub fn budget_limit(&self, row: usize) -> i64 {
-        match self.kind {
-            Kind::Loose => self.rows[row].spare(),
-            Kind::Tight => 0,
+        if self.is_brittle(row) {
+            return 0;
         }
+        self.rows[row].spare()
+    }
+
+    /// The earliest deadline that the next job of any brittle row can have: it arrives
+    /// now, or once it may. None without such a row.
+    pub fn brittle_deadline(&self) -> Option<u64> {
+        let brittle = (0..self.rows.len()).filter(|row| self.is_brittle(*row));
+        brittle.map(|row| self.next_deadline(row)).min()
+    }
+
+    /// The earliest deadline that the next job of a row can have.
+    pub fn next_deadline(&self, row: usize) -> u64 {
+        self.clock.max(self.slots[row].next) + u64::from(self.rows[row].deadline)
     }
 
     /// The waiting job of a row; idle has none.

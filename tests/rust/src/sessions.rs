@@ -2,19 +2,24 @@
 
 use crate::rng::Rng;
 use crate::session::{Choice, Job, Session, Slot, CLOCK_END, IDLE};
-use crate::table::{admit_rows, Row, HORIZON};
+use crate::table::{admit_rows, Kind, Row, HORIZON};
 use crate::tables::{
-    admitted, full_rows, light_rows, roomy_rows, small_rows, staggered_rows, urgent_rows, RowMaker,
+    admitted, close_rows, full_rows, light_rows, part_brittle_rows, roomy_rows, small_rows,
+    staggered_rows, urgent_rows, RowMaker,
 };
 
 /// An admitted table whose soundness the model decides quickly.
 pub fn random_table(rng: &mut Rng) -> Vec<Row> {
-    let makers: [RowMaker; 8] = [
+    let makers: [RowMaker; 12] = [
+        close_rows,
+        part_brittle_rows,
+        part_brittle_rows,
         light_rows,
         roomy_rows,
         roomy_rows,
         small_rows,
         small_rows,
+        full_rows,
         full_rows,
         urgent_rows,
         staggered_rows,
@@ -41,6 +46,9 @@ pub fn sound_session(rng: &mut Rng) -> Session {
     }
     if rng.chance(1, 4) {
         let_all_wait(rng, &mut session);
+    }
+    if session.kind == Kind::Mixed && rng.chance(2, 3) {
+        let_brittle_jobs_come(rng, &mut session);
     }
     if rng.chance(1, 2) {
         let choice = sound_choice(rng, &session);
@@ -131,6 +139,29 @@ fn let_all_wait(rng: &mut Rng, session: &mut Session) {
         if let Some(job) = &mut session.slots[row].job {
             job.budget = job.budget.max(1).min(limit);
         }
+    }
+}
+
+/// Lets no job of a brittle row wait, and the next one of each be due about when some
+/// waiting job is, or later, or earlier.
+fn let_brittle_jobs_come(rng: &mut Rng, session: &mut Session) {
+    for row in 0..session.rows.len() {
+        if !session.is_brittle(row) {
+            continue;
+        }
+        let Row {
+            period, deadline, ..
+        } = session.rows[row];
+        session.slots[row].job = None;
+        let latest = session.clock + u64::from(period);
+        let due: Vec<u64> = session.waiting().map(|job| job.due).collect();
+        let next = if due.is_empty() || rng.chance(1, 2) {
+            edge(rng, session.clock, latest)
+        } else {
+            let due = rng.pick(&due) + u64::from(rng.between(0, 2));
+            due.saturating_sub(u64::from(deadline) + 1)
+        };
+        session.slots[row].next = next.min(latest);
     }
 }
 

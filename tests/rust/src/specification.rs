@@ -1,7 +1,8 @@
 //! The specification's own examples, moments at which equal deadlines go by who
 //! came first (change request 01), moments at which unused time goes to the jobs
 //! behind (change request 02), moments at which words are passed over (change
-//! request 04), and tables of which the first overload is named (change request 06).
+//! request 04), tables of which the first overload is named (change request 06), and
+//! moments of mixed tables (change request 07).
 
 use crate::table::Row;
 
@@ -43,7 +44,7 @@ pub const EXAMPLES: &[Example] = &[
     },
     Example {
         rows: &[[4, 10, 10], [1, 20, 20], [1, 5, 5], [2, 12, 12]],
-        output: "0 M 0 2 4/0 B 0 0 1/0 B 0 1 3/0 B 0 2 -3/0 B 0 3 -2/",
+        output: "0 M 0 3 4/0 B 0 0 1/0 B 0 1 3/0 B 0 2 -3/0 B 0 3 -2/",
     },
     Example {
         rows: &[[1, 5, 5], [3, 8, 8], [2, 9, 9], [4, 20, 20]],
@@ -67,7 +68,7 @@ pub const EXAMPLES: &[Example] = &[
     },
     Example {
         rows: &[[1, 2, 2], [500_000, 1_000_000, 1_000_000]],
-        output: "0 M 0 2 2/0 B 0 0 -499999/0 B 0 1 0/",
+        output: "0 M 0 3 2/0 B 0 0 -499999/0 B 0 1 0/",
     },
     Example {
         rows: &[[1, 2, 2], [500_000, 999_999, 999_999]],
@@ -151,7 +152,7 @@ pub const OVERLOADS: &[Example] = &[
     },
     Example {
         rows: &[[1, 2, 2], [499_999, 999_999, 999_999]],
-        output: "0 M 0 2 2/0 B 0 0 -499998/0 B 0 1 0/",
+        output: "0 M 0 3 2/0 B 0 0 -499998/0 B 0 1 0/",
     },
     // A run that is shortened: at 6 it is 4 + 3, then 3 + 3 and at 9 it is 3 + 3 + 4,
     // then 2 + 3 and at 9 it is 9.
@@ -165,7 +166,7 @@ pub const OVERLOADS: &[Example] = &[
     },
     Example {
         rows: &[[2, 20, 4], [3, 20, 6], [4, 20, 9]],
-        output: "0 M 0 2 3/0 B 0 0 -5/0 B 0 1 -3/0 B 0 2 0/",
+        output: "0 M 0 3 3/0 B 0 0 -5/0 B 0 1 -3/0 B 0 2 0/",
     },
 ];
 
@@ -203,6 +204,11 @@ pub fn gifts() -> Vec<(String, String)> {
 /// The inputs in which words are passed over, or nearly, each with its output.
 pub fn draws() -> Vec<(String, String)> {
     whole(DRAWS)
+}
+
+/// The inputs of mixed tables, and of some next to them, each with its output.
+pub fn mixed() -> Vec<(String, String)> {
+    whole(MIXED)
 }
 
 const TIES: &[Moment] = &[
@@ -370,9 +376,9 @@ const GIFTS: &[Moment] = &[
     },
     // Tight: nothing is given, and the head stays the only candidate.
     Moment {
-        input: "T 1 2 2/T 2 4 4/A 0/A 1/W 1/G/F/",
-        output: "0 M 0 2 2/0 B 0 0 -1/0 B 0 1 0/0 A 0 0 2/0 A 0 1 4/0 G 0 0 1/0 F 0 0 1/",
-        ends: &[["G/", "0 G 0 1 2/"]],
+        input: "T 2 4 4/T 3 6 6/A 0/A 1/W 1/G/F/",
+        output: "0 M 0 2 2/0 B 0 0 -1/0 B 0 1 -1/0 A 0 0 4/0 A 0 1 6/0 G 0 0 2/0 F 0 0 2/",
+        ends: &[["G/", "0 G 0 1 3/"]],
     },
 ];
 
@@ -455,5 +461,165 @@ const DRAWS: &[Moment] = &[
         output: "0 M 0 1 2/0 B 0 0 13/0 B 0 1 23/0 G 0 16 1000000/5 R 0 999995 0/\
             5 A 0 0 25/5 A 0 1 35/",
         ends: &[["G/", "5 G 0 1 2/"]],
+    },
+];
+
+const MIXED: &[Moment] = &[
+    // V of row 0 is 12 − 44 = −32, of row 1 50 − 44 = 6, of row 2 112 − 30 − 20 − 8 = 54.
+    // The next job of row 0 is due at 100 + 12 or later, just when row 2 is.
+    Moment {
+        input: "T 10 100 12/T 4 100 50/T 30 200 112/A 0/A 1/A 2/W 1/",
+        output: "0 M 0 3 3/0 B 0 0 -32/0 B 0 1 6/0 B 0 2 54/0 A 0 0 12/0 A 0 1 50/0 A 0 2 112/",
+        ends: &[
+            // Row 0 has no budget. Then there are two candidates, and no idle.
+            ["G/R 10/G/", "0 G 0 0 10/10 R 0 0 1/10 G 0 2 6/"],
+            ["G/R 10/W 2/G/", "0 G 0 0 10/10 R 0 0 1/10 G 0 2 3/"],
+            [
+                "G/R 10/W 8/G/R 3/W 3/W 1/G/R 2/W 5/G/R 1/W 1/G/",
+                "0 G 0 0 10/10 R 0 0 1/10 G 0 2 3/13 R 0 0 0/13 G 0 2 2/15 R 0 0 0/15 G 0 2 1/\
+                    16 R 0 0 0/16 G 0 1 4/",
+            ],
+            // What row 0 leaves goes to row 1, as budget: 6 + 10, and 6 + 6.
+            ["G/F/G/", "0 G 0 0 10/0 F 0 0 10/0 G 0 2 16/"],
+            ["G/R 4/F/G/", "0 G 0 0 10/4 R 0 6 0/4 F 0 0 6/4 G 0 2 12/"],
+            // Row 1 alone runs without a word, and then idle does.
+            [
+                "G/F/W 0/W 5/G/F/G/R 4/G/",
+                "0 G 0 0 10/0 F 0 0 10/0 G 0 2 1/0 F 0 2 30/0 G 0 1 4/4 R 0 0 1/\
+                    4 G 0 16 1000000/",
+            ],
+        ],
+    },
+    // The same, with row 2 due one tick after that.
+    Moment {
+        input: "T 10 100 12/T 4 100 50/T 30 200 113/A 0/A 1/A 2/W 1/G/R 10/",
+        output: "0 M 0 3 3/0 B 0 0 -32/0 B 0 1 6/0 B 0 2 55/0 A 0 0 12/0 A 0 1 50/0 A 0 2 113/\
+            0 G 0 0 10/10 R 0 0 1/",
+        ends: &[
+            // The word is left for the first choice between two: none here.
+            ["G/R 4/G/", "10 G 0 1 4/14 R 0 0 1/14 G 0 2 30/"],
+        ],
+    },
+    // No job of row 0 has come, so one may come at once: for 12, before both.
+    Moment {
+        input: "T 10 100 12/T 4 100 50/T 30 200 112/A 1/A 2/W 1/",
+        output: "0 M 0 3 3/0 B 0 0 -32/0 B 0 1 6/0 B 0 2 54/0 A 0 1 50/0 A 0 2 112/",
+        ends: &[
+            ["G/", "0 G 0 1 4/"],
+            ["G/F/G/", "0 G 0 1 4/0 F 0 1 4/0 G 0 2 30/"],
+            [
+                "G/R 4/G/R 6/A 0/G/",
+                "0 G 0 1 4/4 R 0 0 1/4 G 0 2 30/10 R 0 24 0/10 A 0 0 22/10 G 0 0 10/",
+            ],
+        ],
+    },
+    // V of row 0 is 19 − 21 = −2, and 1, 1, 29. Rows 1 and 2 are due at 22. A job of row
+    // 0 that comes at 3 is too, and one that comes at 2 is not.
+    Moment {
+        input: "T 10 100 19/T 5 100 22/T 5 100 22/T 1 100 50/A 1/A 2/W 1/G/",
+        output: "0 M 0 3 4/0 B 0 0 -2/0 B 0 1 1/0 B 0 2 1/0 B 0 3 29/0 A 0 1 22/0 A 0 2 22/\
+            0 G 0 1 5/",
+        ends: &[
+            ["R 2/A 3/G/", "2 R 0 3 0/2 A 0 3 52/2 G 0 1 3/"],
+            ["R 3/A 3/G/", "3 R 0 2 0/3 A 0 3 53/3 G 0 2 5/"],
+            ["R 4/A 3/G/", "4 R 0 1 0/4 A 0 3 54/4 G 0 2 5/"],
+            // It does come at 4, for 23. The next one is due at 123 or later, so that it
+            // may run before the two, for one tick, but row 3 not before it.
+            [
+                "R 4/A 3/A 0/G/",
+                "4 R 0 1 0/4 A 0 3 54/4 A 0 0 23/4 G 0 2 5/",
+            ],
+            [
+                "R 4/A 3/A 0/G/R 5/W 1/W 7/G/R 1/W 1/G/",
+                "4 R 0 1 0/4 A 0 3 54/4 A 0 0 23/4 G 0 2 5/9 R 0 0 1/9 G 0 0 1/10 R 0 0 0/\
+                    10 G 0 1 1/",
+            ],
+            // Rows 1 and 2 leave 1 and 5 to row 3, and nothing to row 0.
+            [
+                "R 4/A 3/A 0/G/F/G/F/W 1/G/R 10/G/",
+                "4 R 0 1 0/4 A 0 3 54/4 A 0 0 23/4 G 0 2 5/4 F 0 2 5/4 G 0 1 1/4 F 0 1 1/\
+                    4 G 0 0 10/\
+                    14 R 0 0 1/14 G 0 3 1/",
+            ],
+        ],
+    },
+    // Two brittle rows, which may come again at 100 for 112 and at 60 for 74.
+    Moment {
+        input: "T 5 100 12/T 5 60 14/T 6 100 40/T 6 200 74/A 0/A 1/A 2/A 3/G/R 5/G/R 5/W 1/",
+        output: "0 M 0 3 4/0 B 0 0 -10/0 B 0 1 -8/0 B 0 2 18/0 B 0 3 47/0 A 0 0 12/0 A 0 1 14/\
+            0 A 0 2 40/0 A 0 3 74/0 G 0 0 5/5 R 0 0 1/5 G 0 1 5/10 R 0 0 1/",
+        ends: &[["G/", "10 G 0 3 6/"]],
+    },
+    Moment {
+        input: "T 5 100 12/T 5 60 14/T 6 100 40/T 6 200 75/A 0/A 1/A 2/A 3/G/R 5/G/R 5/W 1/",
+        output: "0 M 0 3 4/0 B 0 0 -10/0 B 0 1 -8/0 B 0 2 18/0 B 0 3 48/0 A 0 0 12/0 A 0 1 14/\
+            0 A 0 2 40/0 A 0 3 75/0 G 0 0 5/5 R 0 0 1/5 G 0 1 5/10 R 0 0 1/",
+        ends: &[["G/", "10 G 0 2 6/"]],
+    },
+    Moment {
+        input: "T 6 200 75/T 5 60 14/T 5 100 12/T 6 100 40/A 0/A 1/A 2/A 3/G/R 5/G/R 5/W 1/",
+        output: "0 M 0 3 4/0 B 0 0 48/0 B 0 1 -8/0 B 0 2 -10/0 B 0 3 18/0 A 0 0 75/0 A 0 1 14/\
+            0 A 0 2 12/0 A 0 3 40/0 G 0 2 5/5 R 0 0 1/5 G 0 1 5/10 R 0 0 1/",
+        ends: &[["G/", "10 G 0 3 6/"]],
+    },
+    // A job of row 3 could come for 70, before row 2, but row 3 is not brittle.
+    Moment {
+        input: "T 10 100 12/T 4 100 50/T 30 200 112/T 1 100 60/A 0/A 1/A 2/W 1/G/R 10/",
+        output: "0 M 0 3 4/0 B 0 0 -33/0 B 0 1 5/0 B 0 2 52/0 B 0 3 15/0 A 0 0 12/0 A 0 1 50/\
+            0 A 0 2 112/0 G 0 0 10/10 R 0 0 1/",
+        ends: &[
+            ["G/", "10 G 0 2 5/"],
+            // It does come, for 70, and stands between the two.
+            ["A 3/G/", "10 A 0 3 70/10 G 0 3 1/"],
+            // Word 1 is used for it, 8 for its only length, then 1 and 3 for row 2.
+            [
+                "A 3/W 8/W 1/W 3/G/R 1/G/",
+                "10 A 0 3 70/10 G 0 3 1/11 R 0 0 1/11 G 0 2 4/",
+            ],
+        ],
+    },
+    // V of row 1 is 44 − 44 = 0: it cannot wait until row 0 leaves it some time.
+    Moment {
+        input: "T 10 100 12/T 4 100 44/T 30 200 112/A 0/A 1/A 2/W 1/G/",
+        output: "0 M 0 3 3/0 B 0 0 -32/0 B 0 1 0/0 B 0 2 54/0 A 0 0 12/0 A 0 1 44/0 A 0 2 112/\
+            0 G 0 0 10/",
+        ends: &[
+            ["F/G/", "0 F 0 0 10/0 G 0 2 10/"],
+            [
+                "R 9/F/G/R 1/W 1/G/",
+                "9 R 0 1 0/9 F 0 0 1/9 G 0 2 1/10 R 0 0 0/10 G 0 1 4/",
+            ],
+            ["R 10/G/", "10 R 0 0 1/10 G 0 1 4/"],
+        ],
+    },
+    // While a job waits idle is no candidate, and with one candidate no word is used.
+    Moment {
+        input: "T 10 100 12/T 4 100 50/T 30 200 112/A 0/G/R 10/A 1/W 1/W 2/G/R 4/G/R 6/A 2/G/",
+        output: "0 M 0 3 3/0 B 0 0 -32/0 B 0 1 6/0 B 0 2 54/0 A 0 0 12/0 G 0 0 10/10 R 0 0 1/\
+            10 A 0 1 60/10 G 0 1 4/14 R 0 0 1/14 G 0 16 1000000/20 R 0 999994 0/20 A 0 2 132/\
+                20 G 0 2 30/",
+        ends: &[["F/R 1/", "20 F 0 2 30/20 R 9 0 0/"]],
+    },
+    // A V of 0 alone makes a table mixed. Row 1 has one tick then, but idle stays out.
+    Moment {
+        input: "T 1 2 2/T 2 4 4/A 0/A 1/W 1/G/F/",
+        output: "0 M 0 3 2/0 B 0 0 -1/0 B 0 1 0/0 A 0 0 2/0 A 0 1 4/0 G 0 0 1/0 F 0 0 1/",
+        ends: &[["G/", "0 G 0 1 2/"]],
+    },
+    // Next to mixed: all negative, and none.
+    Moment {
+        input: "T 2 4 4/T 3 7 7/A 1/A 0/W 1/",
+        output: "0 M 0 3 2/0 B 0 0 -1/0 B 0 1 0/0 A 0 1 7/0 A 0 0 4/",
+        ends: &[["G/R 2/G/", "0 G 0 0 2/2 R 0 0 1/2 G 0 1 3/"]],
+    },
+    Moment {
+        input: "T 2 4 4/T 3 6 6/A 1/A 0/W 1/",
+        output: "0 M 0 2 2/0 B 0 0 -1/0 B 0 1 -1/0 A 0 1 6/0 A 0 0 4/",
+        ends: &[["G/R 2/G/", "0 G 0 0 2/2 R 0 0 1/2 G 0 1 3/"]],
+    },
+    Moment {
+        input: "T 2 4 4/T 1 6 6/A 1/A 0/W 1/",
+        output: "0 M 0 1 2/0 B 0 0 1/0 B 0 1 1/0 A 0 1 6/0 A 0 0 4/",
+        ends: &[["G/", "0 G 0 1 1/"]],
     },
 ];

@@ -50,6 +50,7 @@ impl From<[u32; 3]> for Row {
 pub enum Kind {
     Loose = 1,
     Tight = 2,
+    Mixed = 3,
 }
 
 /// A refusal of admission: its number and two values.
@@ -109,16 +110,33 @@ pub fn admit_rows(rows: &[Row]) -> Result<Table, Refusal> {
 
 /// The kind of lawful rows, or refusal 3 or 4.
 fn kind_of(rows: &[Row], search: Search) -> Result<Kind, Refusal> {
-    if (0..rows.len()).all(|row| budget(rows, row) >= 0) {
-        return Ok(Kind::Loose);
+    let kind = kind_by_budgets(rows);
+    if kind == Kind::Loose {
+        return Ok(kind);
     }
     if let Some((tick, demand)) = search(rows, compared_range(rows)) {
         return Err(Refusal::new(3, tick, demand));
     }
     match busy_length(rows) {
-        Some(_) => Ok(Kind::Tight),
+        Some(_) => Ok(kind),
         None => Err(Refusal::new(4, HORIZON, 0)),
     }
+}
+
+/// The kind that lawful rows have if they are admitted: loose if no row is brittle,
+/// tight if every row is.
+pub fn kind_by_budgets(rows: &[Row]) -> Kind {
+    match brittle_rows(rows).len() {
+        0 => Kind::Loose,
+        brittle if brittle == rows.len() => Kind::Tight,
+        _ => Kind::Mixed,
+    }
+}
+
+/// The rows of negative V; all rows must be lawful.
+pub fn brittle_rows(rows: &[Row]) -> Vec<usize> {
+    let all = 0..rows.len();
+    all.filter(|row| budget(rows, *row) < 0).collect()
 }
 
 /// The inversion budget V of a row; all rows must be lawful.
@@ -213,10 +231,11 @@ pub fn overloads_by_scan(rows: &[Row], limit: u64) -> impl Iterator<Item = (u64,
 /// The kind of lawful rows by the definitions, each tick tried; none if the
 /// table is refused.
 pub fn admit_by_scan(rows: &[Row]) -> Option<Kind> {
-    if (0..rows.len()).all(|row| budget(rows, row) >= 0) {
-        return Some(Kind::Loose);
+    let kind = kind_by_budgets(rows);
+    if kind == Kind::Loose {
+        return Some(kind);
     }
     let length = busy_length_by_scan(rows)?;
     let overload = overloads_by_scan(rows, length).next();
-    overload.is_none().then_some(Kind::Tight)
+    overload.is_none().then_some(kind)
 }

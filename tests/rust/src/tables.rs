@@ -126,6 +126,74 @@ pub fn staggered_rows(rng: &mut Rng) -> Vec<Row> {
     rows
 }
 
+/// Rows of which some are brittle and mostly not all, always admitted: all can run once
+/// within the shortest period. Brittle ones are due before that. Of the others some are
+/// due as soon as may be, and some about when a brittle job can be that arrives one
+/// period after them.
+pub fn part_brittle_rows(rng: &mut Rng) -> Vec<Row> {
+    let fewest = rng.pick(&[2, 2, ROW_LIMIT as u32]);
+    let count = rng.between(fewest, ROW_LIMIT as u32) as usize;
+    let brittle = match rng.below(4) {
+        0 => 1,
+        1 => count - 1,
+        _ => 1 + rng.below(count - 1),
+    };
+    let longest = rng.pick(&[1, 3, 12, 200, 10_000]);
+    let runs: Vec<u32> = (0..count).map(|_| rng.between(1, longest)).collect();
+    let all: u32 = runs.iter().sum();
+    let most_periods = rng.pick(&[2, 8, 40]);
+    let longest_period = LONGEST.min(most_periods * all);
+    let mut rows: Vec<Row> = Vec::new();
+    let mut demand = 0;
+    for run in &runs[..brittle] {
+        demand += run;
+        let deadline = rng.between(demand, all - 1);
+        rows.push(row(*run, rng.between(all, longest_period), deadline));
+    }
+    for run in &runs[brittle..] {
+        let Row {
+            period, deadline, ..
+        } = rng.pick(&rows[..brittle]);
+        let deadline = match rng.below(4) {
+            0 => rng.between(all, longest_period),
+            1 => rng.between(all, 2 * all),
+            2 => all + rng.between(0, 3),
+            _ => period + deadline + rng.between(0, 4) - 2,
+        };
+        let deadline = deadline.clamp(all, LONGEST);
+        let longest = rng.pick(&[deadline, LONGEST.min(2 * deadline), LONGEST]);
+        rows.push(row(*run, rng.between(deadline, longest), deadline));
+    }
+    for place in 0..count {
+        rows.swap(place, rng.below(count));
+    }
+    rows
+}
+
+/// A few rows, of which one or two are due just before all could have run once, and are
+/// brittle, and the others just after. So a brittle job that comes a few ticks after
+/// others is due when they are.
+pub fn close_rows(rng: &mut Rng) -> Vec<Row> {
+    let brittle = rng.between(1, 2);
+    let others = rng.between(2, 5);
+    let longest = rng.pick(&[4, 12, 100]);
+    let runs = (0..brittle + others).map(|_| rng.between(2, longest));
+    let runs: Vec<u32> = runs.collect();
+    let all: u32 = runs.iter().sum();
+    let most = rng.pick(&[2, 2, 6]);
+    let mut rows = Vec::new();
+    for (place, run) in (0..).zip(runs) {
+        let deadline = if place < brittle {
+            all - rng.between(1, 2)
+        } else {
+            all + rng.between(1, most)
+        };
+        let period = deadline + rng.between(most, 2 * all);
+        rows.insert(rng.below(rows.len() + 1), row(run, period, deadline));
+    }
+    rows
+}
+
 /// One short row and one long one that together fill the processor: the busy
 /// length comes near the horizon or passes it.
 pub fn long_busy_rows(rng: &mut Rng) -> Vec<Row> {

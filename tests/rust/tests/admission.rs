@@ -9,7 +9,10 @@ use shuffle_model::tables::{full_rows, long_busy_rows, small_rows, urgent_rows, 
 
 /// Admission as the specification words it, with nothing stepped over.
 fn admit_by_scan(rows: &[Row]) -> (u32, [u64; 2]) {
-    if (0..rows.len()).all(|row| budget(rows, row) >= 0) {
+    let budgets: Vec<i64> = (0..rows.len()).map(|row| budget(rows, row)).collect();
+    let [some_brittle, some_not] =
+        [|v: &i64| *v < 0, |v: &i64| *v >= 0].map(|has: fn(&i64) -> bool| budgets.iter().any(has));
+    if !some_brittle {
         return (0, [Kind::Loose as u64, 0]);
     }
     let busy = busy_length_by_scan(rows);
@@ -18,6 +21,7 @@ fn admit_by_scan(rows: &[Row]) -> (u32, [u64; 2]) {
     }
     match busy {
         None => (4, [HORIZON, 0]),
+        Some(_) if some_not => (0, [Kind::Mixed as u64, 0]),
         Some(_) => (0, [Kind::Tight as u64, 0]),
     }
 }

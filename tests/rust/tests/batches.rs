@@ -94,11 +94,21 @@ fn the_listing_starts_with_a_batch_as_with_two_arrivals() {
 
 #[test]
 fn a_tight_session_gives_no_budget() {
-    let mut session = fresh(&[[1, 2, 2], [2, 4, 4]]);
+    let mut session = fresh(&[[2, 4, 4], [3, 6, 6]]);
     assert_eq!(session.kind, Kind::Tight);
     let answers = batch(&mut session, &[1, 0, 1]);
-    assert_eq!(answers, [(0, [1, 4]), (0, [0, 2]), (7, [1, 4])]);
-    assert_eq!(session.slots, [slot(2, 2, 1, 0), slot(4, 4, 2, 0)]);
+    assert_eq!(answers, [(0, [1, 6]), (0, [0, 4]), (7, [1, 6])]);
+    assert_eq!(session.slots, [slot(4, 4, 2, 0), slot(6, 6, 3, 0)]);
+}
+
+#[test]
+fn a_mixed_session_gives_budget_to_rows_that_are_not_brittle() {
+    // V is 4 − 3 − 3 = −2 and 10 − 3 − 2 × 3 = 1.
+    let mut session = fresh(&[[3, 5, 4], [3, 50, 10]]);
+    assert_eq!(session.kind, Kind::Mixed);
+    let answers = batch(&mut session, &[1, 0, 1]);
+    assert_eq!(answers, [(0, [1, 10]), (0, [0, 4]), (7, [1, 50])]);
+    assert_eq!(session.slots, [slot(5, 4, 3, 0), slot(50, 10, 3, 1)]);
 }
 
 #[test]

@@ -319,11 +319,11 @@ fn one_candidate_uses_no_word() {
         left: 4,
         budget: 0,
     });
-    let tight = arrived(&[[1, 2, 2], [2, 4, 4]]);
+    let tight = arrived(&[[2, 4, 4], [3, 6, 6]]);
     assert_eq!(tight.kind, Kind::Tight);
     for words in [&[][..], &[1], &[LAST], &[LAST, LAST, 1], &[LAST; 100]] {
         assert_eq!(choose(&head, words), ([0, 4], 0));
-        assert_eq!(choose(&tight, words), ([0, 1], 0));
+        assert_eq!(choose(&tight, words), ([0, 2], 0));
         assert_eq!(choose(&fresh(&FOUR), words), ([IDLE_SHOWN, 1_000_000], 0));
     }
 }

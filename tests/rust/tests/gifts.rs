@@ -3,52 +3,10 @@
 
 mod shared;
 
-use shared::{arrived, fresh, FOUR};
-use shuffle_model::calls::{candidates, perform, Answer, Call};
+use shared::{accept, arrived, budgets, finish, fresh, job, waiting, FOUR};
+use shuffle_model::calls::{candidates, perform, Call};
 use shuffle_model::session::{Choice, Job, Session, Slot, CLOCK_END, IDLE};
 use shuffle_model::table::{budget, Kind, Row};
-
-fn job(due: u64, left: u64, budget: i64) -> Option<Job> {
-    Some(Job { due, left, budget })
-}
-
-/// A sound session: for each row its numbers and its waiting job, if any.
-fn waiting(clock: u64, rows: &[([u32; 3], Option<Job>)]) -> Session {
-    let numbers: Vec<[u32; 3]> = rows.iter().map(|(row, _)| *row).collect();
-    let mut session = fresh(&numbers);
-    session.clock = clock;
-    for (slot, (row, job)) in session.slots.iter_mut().zip(rows) {
-        let [_, period, deadline] = row.map(u64::from);
-        if let Some(waiting) = job {
-            *slot = Slot {
-                next: waiting.due + period - deadline,
-                job: *job,
-            };
-        }
-    }
-    assert!(session.is_sound(), "{session:?}");
-    session
-}
-
-/// Makes a call that must be accepted and leave a sound session.
-fn accept(session: &mut Session, call: Call) -> Answer {
-    let answer = perform(session, call);
-    assert_eq!(answer.number, 0, "{call:?}");
-    assert!(session.is_sound(), "{session:?}");
-    answer
-}
-
-/// Finishes the job of a row, of which so many ticks are left in the choice.
-fn finish(session: &mut Session, row: u32, left: u64) -> [u64; 2] {
-    session.choice = Some(Choice { row, left });
-    accept(session, Call::Finish).values
-}
-
-/// The budget of each row's job, none if no job of the row waits.
-fn budgets(session: &Session) -> Vec<Option<i64>> {
-    let slots = session.slots.iter();
-    slots.map(|slot| slot.job.map(|job| job.budget)).collect()
-}
 
 #[test]
 fn later_jobs_gain_and_earlier_ones_do_not() {
@@ -289,27 +247,27 @@ fn the_limit_may_lie_below_that_of_the_finished_job() {
 
 #[test]
 fn a_tight_session_gives_nothing() {
-    // V of row 0 is 2 − 1 − 2 = −1. D − C of row 1 is 2.
-    let mut session = arrived(&[[1, 2, 2], [2, 4, 4]]);
+    // V is 4 − 2 − 3 = −1 and 6 − 3 − 2 × 2 = −1. D − C of row 1 is 3.
+    let mut session = arrived(&[[2, 4, 4], [3, 6, 6]]);
     assert_eq!(session.kind, Kind::Tight);
-    assert_eq!(finish(&mut session, 0, 1), [0, 1]);
+    assert_eq!(finish(&mut session, 0, 2), [0, 2]);
     assert_eq!(budgets(&session), [None, Some(0)]);
     // So the head is still the only candidate.
     assert_eq!(candidates(&session), [1]);
     let answer = accept(&mut session, Call::Choose(&[1, 1]));
-    assert_eq!((answer.values, answer.words_used), ([1, 2], 0));
+    assert_eq!((answer.values, answer.words_used), ([1, 3], 0));
 }
 
 #[test]
-fn a_tight_session_gives_nothing_to_a_row_of_positive_v() {
+fn a_mixed_session_gives_to_rows_of_v_0_and_above() {
     // V is 4 − 3 − 3 − 1 = −3, 10 − 3 − 2 × 3 − 1 = 0 and 30 − 1 − 6 × 3 − 3 = 8.
     let rows = [[3, 5, 4], [3, 50, 10], [1, 50, 30]];
     let session = fresh(&rows);
     let v: Vec<i64> = (0..3).map(|row| budget(&session.rows, row)).collect();
-    assert_eq!((session.kind, v), (Kind::Tight, vec![-3, 0, 8]));
+    assert_eq!((session.kind, v), (Kind::Mixed, vec![-3, 0, 8]));
     let mut session = arrived(&rows);
     finish(&mut session, 0, 3);
-    assert_eq!(budgets(&session), [None, Some(0), Some(0)]);
+    assert_eq!(budgets(&session), [None, Some(3), Some(11)]);
 }
 
 #[test]
@@ -393,9 +351,20 @@ fn a_budget_is_sound_up_to_d_less_c() {
 
 #[test]
 fn a_budget_of_a_tight_session_is_zero() {
-    // V of row 0 is −1 and 1, and its D − C 1 and 7.
+    // D − C of row 0 is 2 and 3.
+    check_budgets(&[[2, 4, 4], [3, 6, 6]], &[0], &[1, 2]);
+    check_budgets(&[[3, 6, 6], [2, 4, 4]], &[0], &[1, 3]);
+}
+
+#[test]
+fn a_budget_of_a_mixed_session_is_zero_if_its_row_is_brittle() {
+    // V of row 0 is −1 and −3, and its D − C 1 and 1.
     check_budgets(&[[1, 2, 2], [2, 4, 4]], &[0], &[1, 2]);
-    check_budgets(&[[3, 50, 10], [3, 5, 4]], &[0], &[1, 4, 7]);
+    check_budgets(&[[3, 5, 4], [3, 50, 10], [1, 50, 30]], &[0], &[1, 2]);
+    // V is 1, 0 and 8, and D − C 7, 7 and 29.
+    check_budgets(&[[3, 50, 10], [3, 5, 4]], &[0, 1, 2, 7], &[8, 10]);
+    check_budgets(&[[3, 50, 10], [3, 5, 4], [1, 50, 30]], &[0, 1, 7], &[8, 10]);
+    check_budgets(&[[1, 50, 30], [3, 5, 4], [3, 50, 10]], &[0, 8, 29], &[30]);
 }
 
 #[test]

@@ -151,7 +151,7 @@ fn a_planner_sees_the_tick_rise_until_the_refusal_goes_away() {
     let table = |run| rows(&[[run, 20, 4], [3, 20, 6], [4, 20, 9]]);
     assert_eq!(named(&table(4)), Some((6, 7)));
     assert_eq!(named(&table(3)), Some((9, 10)));
-    assert_eq!(admit_rows(&table(2)).unwrap().kind, Kind::Tight);
+    assert_eq!(admit_rows(&table(2)).unwrap().kind, Kind::Mixed);
     // That at 999,999 is 499,999 + c. With 500,000 there is no overload up to the
     // horizon, but no busy length either; with 499,999 it is 999,998.
     let table = |run| rows(&[[1, 2, 2], [run, 999_999, 999_999]]);
@@ -163,7 +163,7 @@ fn a_planner_sees_the_tick_rise_until_the_refusal_goes_away() {
         Err(Refusal { number: 4, values })
     );
     assert_eq!(busy_length(&table(499_999)), Some(999_998));
-    assert_eq!(admit_rows(&table(499_999)).unwrap().kind, Kind::Tight);
+    assert_eq!(admit_rows(&table(499_999)).unwrap().kind, Kind::Mixed);
 }
 
 #[test]
@@ -246,8 +246,8 @@ fn there_the_earliest_deadline_first_misses() {
 #[test]
 fn it_is_the_least_of_all_ticks_and_not_only_of_those_compared() {
     let mut rng = Rng::new(24);
-    let mut counts = [0; 3];
-    for _ in 0..2_000 {
+    let mut counts = [0; 4];
+    for _ in 0..2_500 {
         let makers: [RowMaker; 4] = [small_rows, full_rows, urgent_rows, overloaded_rows];
         let table = rng.pick(&makers)(&mut rng);
         let (place, limit) = match admit_rows(&table) {

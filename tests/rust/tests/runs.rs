@@ -3,12 +3,14 @@
 use shuffle_model::draws::Draws;
 use shuffle_model::driver::Driver;
 use shuffle_model::gifts::Gifts;
+use shuffle_model::mixed::Mixed;
 use shuffle_model::rng::Rng;
 use shuffle_model::runs::{random_command, Style};
 use shuffle_model::session::{Session, IDLE};
-use shuffle_model::table::{Kind, Row};
+use shuffle_model::table::{budget, Row};
 use shuffle_model::tables::{
-    admitted, full_rows, light_rows, roomy_rows, small_rows, staggered_rows, RowMaker,
+    admitted, full_rows, light_rows, part_brittle_rows, roomy_rows, small_rows, staggered_rows,
+    RowMaker,
 };
 use shuffle_model::text::{Command, Outcome};
 use shuffle_model::ties::Ties;
@@ -102,14 +104,15 @@ impl Ledger {
     }
 }
 
-/// After an accepted finish: in a loose session each job of later deadline has
+/// After an accepted finish: each job of later deadline whose row is not brittle has
 /// gained all of the unused ticks, since the limit of its budget cuts nothing in
 /// a run that began with an admission; and no other job has gained any.
 fn check_gains(before: &Session, after: &Session, [row, unused]: [u64; 2]) {
     let finished = before.job(row as u32).expect("a finished job waited");
-    for (old, new) in before.slots.iter().zip(&after.slots) {
+    let slots = before.slots.iter().zip(&after.slots);
+    for (row, (old, new)) in slots.enumerate() {
         if let (Some(old), Some(new)) = (old.job, new.job) {
-            let gains = before.kind == Kind::Loose && old.due > finished.due;
+            let gains = budget(&before.rows, row) >= 0 && old.due > finished.due;
             let gain = if gains { unused as i64 } else { 0 };
             assert_eq!(new.budget, old.budget + gain, "{before:?}");
         }
@@ -122,6 +125,7 @@ struct Reached {
     ties: Ties,
     gifts: Gifts,
     draws: Draws,
+    mixed: Mixed,
 }
 
 /// Runs random calls and checks ledger and session after each.
@@ -134,6 +138,7 @@ fn check_run(rng: &mut Rng, rows: &[Row], style: Style, steps: usize) -> Reached
         reached.ties.watch(&driver.machine, command);
         reached.gifts.watch(&driver.machine, command);
         reached.draws.watch(&driver.machine, command);
+        reached.mixed.watch(&driver.machine, command);
         let before = driver.machine.session.clone();
         if let Outcome::Answered(_, answer) = driver.push(command) {
             if answer.number == 0 {
@@ -201,6 +206,25 @@ fn no_job_is_late_where_words_are_passed_over() {
     let runs = check_runs(roomy_rows, Style::drawing, 300);
     let passed = runs.iter().filter(|run| run.draws.passed).count();
     assert!(passed > 200, "{passed} of 300 pass a word over");
+}
+
+#[test]
+fn no_job_is_late_where_some_rows_are_brittle() {
+    let styles: [fn(&mut Rng) -> Style; 5] = [
+        Style::limiting,
+        Style::random,
+        Style::giving,
+        Style::drawing,
+        Style::meeting,
+    ];
+    for style in styles {
+        let runs = check_runs(part_brittle_rows, style, 300);
+        let taken = runs
+            .iter()
+            .filter(|run| run.mixed.has("take a candidate other than the head"));
+        let taken = taken.count();
+        assert!(taken > 40, "{taken} of 300 run another than the head");
+    }
 }
 
 #[test]

@@ -25,10 +25,10 @@ fn slot(next: u64, due: u64, left: u64, budget: i64) -> Slot {
 
 /// At 5: both rows arrived at 5 and the head is chosen.
 fn tight() -> Session {
-    let mut session = Session::new(admit(&[1, 2, 2, 2, 4, 4]).unwrap());
+    let mut session = Session::new(admit(&[2, 4, 4, 3, 6, 6]).unwrap());
     assert_eq!(session.kind, Kind::Tight);
     session.clock = 5;
-    session.slots = vec![slot(7, 7, 1, 0), slot(9, 9, 2, 0)];
+    session.slots = vec![slot(9, 9, 2, 0), slot(11, 11, 3, 0)];
     session.choice = Some(Choice { row: 0, left: 1 });
     session
 }
@@ -172,7 +172,7 @@ fn budget_lies_from_zero_to_d_less_c() {
         false,
         vec![budget(-1), budget(13), budget(i64::MIN), budget(i64::MAX)],
     );
-    let spendable = with(tight(), |session| session.slots[1] = slot(9, 9, 2, 1));
+    let spendable = with(tight(), |session| session.slots[1] = slot(11, 11, 3, 1));
     assert_all(false, vec![spendable]);
 }
 

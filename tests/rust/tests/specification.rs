@@ -3,7 +3,7 @@
 use shuffle_model::calls::candidates;
 use shuffle_model::driver::table_text;
 use shuffle_model::session::{Job, Session, Slot, IDLE};
-use shuffle_model::specification::{draws, gifts, listing, plain, ties, EXAMPLES};
+use shuffle_model::specification::{draws, gifts, listing, mixed, plain, ties, EXAMPLES};
 use shuffle_model::table::{admit, busy_length, demand, overloads_by_scan, Refusal, Row};
 use shuffle_model::text::run;
 
@@ -37,6 +37,11 @@ fn unused_time_goes_to_the_jobs_behind() {
 #[test]
 fn every_candidate_is_equally_likely() {
     check_outputs(draws());
+}
+
+#[test]
+fn tables_are_part_loose() {
+    check_outputs(mixed());
 }
 
 #[test]

@@ -6,14 +6,15 @@ use shuffle_model::draws::{DrawTally, Drawn, DrawnChoices, Draws};
 use shuffle_model::gifts::{shares, FinishTally, GiftTally, Gifts, Share};
 use shuffle_model::hard::{full_to, full_to_one, mutant, utilisation, with_longer_deadlines};
 use shuffle_model::inputs::random_input;
+use shuffle_model::mixed::{HeldTally, Mixed, MixedCalls, MixedTally, TableTally};
 use shuffle_model::overloaded::{late_overload_rows, overloaded_rows};
 use shuffle_model::overloads::OverloadTally;
 use shuffle_model::rng::Rng;
-use shuffle_model::session::{Choice, Session, IDLE};
+use shuffle_model::session::{Choice, Job, Session, IDLE};
 use shuffle_model::sessions::sound_session;
 use shuffle_model::shrink::shrink;
-use shuffle_model::specification::{draws, gifts, listing, plain, ties};
-use shuffle_model::table::{admit, Row, ROW_LIMIT};
+use shuffle_model::specification::{draws, gifts, listing, mixed, plain, ties};
+use shuffle_model::table::{admit, Kind, Row, ROW_LIMIT};
 use shuffle_model::tally::{Among, Tally};
 use shuffle_model::text::{run, run_watched};
 use shuffle_model::ties::{TieTally, TiedChoices, Ties};
@@ -121,14 +122,16 @@ fn ties_count_where_arrival_decides_against_the_row_number() {
 
 #[test]
 fn watching_changes_no_output() {
-    for (input, output) in ties().into_iter().chain(gifts()).chain(draws()) {
+    for (input, output) in [ties(), gifts(), draws(), mixed()].into_iter().flatten() {
         assert_eq!(run(input.as_bytes()), output.as_bytes());
         let (mut ties, mut gifts) = (Ties::default(), Gifts::default());
         let mut draws = Draws::default();
+        let mut mixed = Mixed::default();
         let watched = run_watched(input.as_bytes(), |machine, command| {
             ties.watch(machine, command);
             gifts.watch(machine, command);
             draws.watch(machine, command);
+            mixed.watch(machine, command);
         });
         assert_eq!(watched, output.as_bytes());
     }
@@ -178,15 +181,16 @@ fn choices_of_sound_sessions_reach_every_sort_of_tie() {
 }
 
 /// Which gifts an input in the form of the listing reaches: given, several,
-/// shown; and what is not given: to an equal deadline, in a tight session.
-fn gifts_of(input: &str) -> ([bool; 3], [bool; 2]) {
+/// shown; and what is not given: to an equal deadline, in a tight session, to a
+/// brittle row.
+fn gifts_of(input: &str) -> ([bool; 3], [bool; 3]) {
     let mut gifts = Gifts::default();
     let input = plain(input).into_bytes();
     let output = run_watched(&input, |machine, command| gifts.watch(machine, command));
     gifts.compare(&input, &output);
     (
         [gifts.given, gifts.several, gifts.shown],
-        [gifts.equal, gifts.tight],
+        [gifts.equal, gifts.tight, gifts.brittle],
     )
 }
 
@@ -196,15 +200,15 @@ fn gifts_count_where_a_finish_gives() {
     let chosen = "T 4 100 20/T 3 100 30/A 0/A 1/G/";
     let go_on = |end: &str| gifts_of(&format!("{chosen}{end}"));
     for end in ["", "R 4/G/F/", "R 1/G/W 1/", "R 5/A 0/x/F/"] {
-        assert_eq!(go_on(end), ([false; 3], [false; 2]), "{end}");
+        assert_eq!(go_on(end), ([false; 3], [false; 3]), "{end}");
     }
     // The head and its span are the same without the gift; so are spans from a
     // word below 23.
     for end in ["F/", "F/G/", "R 3/F/W 2/G/R 3/G/", "F/W 1/W 22/G/"] {
-        assert_eq!(go_on(end), ([true, false, false], [false; 2]), "{end}");
+        assert_eq!(go_on(end), ([true, false, false], [false; 3]), "{end}");
     }
     for end in ["F/W 1/G/", "F/W 1/W 23/G/", "R 3/F/A 0/F/R 0/W 1/G/"] {
-        assert_eq!(go_on(end), ([true, false, true], [false; 2]), "{end}");
+        assert_eq!(go_on(end), ([true, false, true], [false; 3]), "{end}");
     }
 }
 
@@ -224,12 +228,15 @@ fn gifts_count_where_one_job_gains_more_than_once() {
 fn gifts_count_what_is_not_given() {
     // Both for 20.
     let equal = "T 2 10 10/T 2 20 20/A 1/W 1/W 9/G/R 10/A 0/G/F/W 1/G/";
-    assert_eq!(gifts_of(equal), ([false; 3], [true, false]));
-    let tight = "T 1 2 2/T 2 4 4/A 0/A 1/G/F/W 1/G/";
-    assert_eq!(gifts_of(tight), ([false; 3], [false, true]));
+    assert_eq!(gifts_of(equal), ([false; 3], [true, false, false]));
+    let tight = "T 2 4 4/T 3 6 6/A 0/A 1/G/F/W 1/G/";
+    assert_eq!(gifts_of(tight), ([false; 3], [false, true, false]));
+    // V is −1, 2, 2. Row 1 is due at 22, row 0, which comes at 4, at 23.
+    let brittle = "T 10 100 19/T 5 100 22/T 5 100 22/A 1/G/R 4/A 0/G/F/";
+    assert_eq!(gifts_of(brittle), ([false; 3], [false, false, true]));
     // The later of the two gives nothing to the earlier.
     let earlier = "T 2 100 10/T 3 100 20/A 0/A 1/W 1/G/F/W 1/G/";
-    assert_eq!(gifts_of(earlier), ([false; 3], [false; 2]));
+    assert_eq!(gifts_of(earlier), ([false; 3], [false; 3]));
 }
 
 #[test]
@@ -244,9 +251,9 @@ fn too_few_gifts_are_named() {
         tally
     };
     let mut all = Gifts::default();
-    assert_eq!(tally(&[(1, all.clone())]).gaps().len(), 5);
+    assert_eq!(tally(&[(1, all.clone())]).gaps().len(), 6);
     (all.given, all.several, all.shown) = (true, true, true);
-    (all.equal, all.tight) = (true, true);
+    (all.equal, all.tight, all.brittle) = (true, true, true);
     assert!(tally(&[(7, Gifts::default()), (1, all.clone())])
         .gaps()
         .is_empty());
@@ -258,7 +265,7 @@ fn too_few_gifts_are_named() {
         tally(&[(2, Gifts::default()), (1, all)]).to_string(),
         "a finish gives to a later job in 1 inputs, in 1 of them more than once to one job, \
         and 1 show it in an answer; a job gains nothing in 1 inputs since its deadline is \
-        equal, in 1 since the session is tight"
+        equal, in 1 since the session is tight, in 1 since its row is brittle"
     );
 }
 
@@ -286,7 +293,7 @@ fn shares_are_what_a_finish_gives() {
                 Share::Whole => new == old + unused,
                 Share::Part => old < new && new < old + unused && new == limit,
                 Share::Full => old == new && new == limit,
-                Share::Earlier | Share::Equal | Share::Tight => old == new,
+                Share::Earlier | Share::Equal | Share::Tight | Share::Brittle => old == new,
             };
             assert!(is_right, "{row} {share:?} {before:?}");
         }
@@ -299,7 +306,7 @@ fn too_few_finishes_of_a_sort_are_named() {
     let tally = FinishTally::default();
     assert_eq!(tally.gaps(0).len(), 0);
     let gaps = tally.gaps(1);
-    assert_eq!(gaps.len(), 6);
+    assert_eq!(gaps.len(), 7);
     assert_eq!(
         gaps[1],
         "0 finishes give a part up to the limit (fewer than one in 10000 calls)"
@@ -460,7 +467,7 @@ fn choices_count_by_their_draws() {
     assert_eq!(draw_sorts(&short, &[1]), none);
     assert_eq!(draw_sorts(&short, &[1, 7]), [12]);
     assert_eq!(draw_sorts(&short, &[1, last]), [8, 11, 12]);
-    let tight = arrived(&[[1, 2, 2], [2, 4, 4]]);
+    let tight = arrived(&[[2, 4, 4], [3, 6, 6]]);
     assert_eq!(draw_sorts(&tight, &[last, last]), none);
 }
 
@@ -556,7 +563,7 @@ fn words_lie_on_both_sides_of_the_limit() {
     let near = |words: &[u32]| next_word(&mut Rng::new(1), &single, words);
     assert_eq!(near(&[1, u32::MAX]), near(&[1]));
     assert_ne!(near(&[]), near(&[1]));
-    let tight = arrived(&[[1, 2, 2], [2, 4, 4]]);
+    let tight = arrived(&[[2, 4, 4], [3, 6, 6]]);
     assert_eq!(next_word(&mut rng, &tight, &[]), None);
 }
 
@@ -745,4 +752,347 @@ fn overloaded_tables_reach_every_sort() {
         tally.add(&late_overload_rows(&mut rng));
     }
     assert!(tally.gaps(Among::Inputs(8_000)).is_empty(), "{tally}");
+}
+
+#[test]
+fn tables_count_by_kind_and_brittle_rows() {
+    let mut tally = TableTally::default();
+    for rows in [
+        // Loose, tight, mixed with a V of 0, mixed with V 6 and 54; overloaded.
+        &[[2, 10, 10], [3, 20, 15]][..],
+        &[[2, 4, 4], [3, 6, 6]],
+        &[[1, 2, 2], [2, 4, 4]],
+        &[[10, 100, 12], [4, 100, 50], [30, 200, 112]],
+        &[[5, 100, 12], [5, 60, 14], [6, 100, 40], [6, 200, 74]],
+        &[[1, 2, 2], [2, 3, 3]],
+    ] {
+        let rows: Vec<Row> = rows.iter().copied().map(Row::from).collect();
+        let mut one = TableTally::default();
+        one.add(&rows);
+        tally.merge(one);
+    }
+    assert_eq!(
+        tally.to_string(),
+        "of 5 admitted tables 1 are tight and 3 mixed, 1 of them with a V of 0 and 0 of 16 rows; \
+        1 to 15 of their rows are brittle in 2 1 0 0 0 0 0 0 0 0 0 0 0 0 0"
+    );
+    let gaps = tally.gaps();
+    assert_eq!(gaps.len(), 1 + 15);
+    assert_eq!(
+        gaps[0],
+        "0 of 5 inputs admit a mixed table of 16 rows (fewer than one in 40)"
+    );
+    assert_eq!(
+        gaps[15],
+        "0 mixed tables have 15 brittle rows (fewer than 20)"
+    );
+}
+
+/// What is said of mixed choices and finishes, without the counts of those that there
+/// are none of.
+fn said_of(calls: &MixedCalls) -> Vec<String> {
+    let text = calls.to_string();
+    let parts = text.split(['|', ',', ';']);
+    let last = parts.map(|part| part.rsplit("sessions ").next().unwrap().trim());
+    let last = last.map(|part| part.strip_prefix("with a waiting job ").unwrap_or(part));
+    last.filter(|part| part.starts_with(|first| ('1'..='9').contains(&first)))
+        .map(|part| part.split_once(' ').unwrap().1.to_string())
+        .collect()
+}
+
+/// The sorts that a choice is of.
+fn mixed_sorts(session: &Session, words: &[u32]) -> Vec<String> {
+    let mut calls = MixedCalls::default();
+    calls.add_choice(session, words);
+    said_of(&calls)
+}
+
+/// At the clock, with jobs of rows 1 and 2 for these deadlines and none of row 0, which
+/// is brittle and may come at `next`, so for 12 ticks later. V is −32, 6 and 54.
+fn brittle_to_come(clock: u64, next: u64, due: [u64; 2]) -> Session {
+    let rows = [[10, 100, 12], [4, 100, 50], [30, 200, 112]];
+    let mut session = Session::new(admit(&rows.concat()).unwrap());
+    session.clock = clock;
+    session.slots[0].next = next;
+    for (row, (due, [left, budget])) in (1..).zip(due.into_iter().zip([[4, 6], [30, 54]])) {
+        let [_, period, deadline] = rows[row].map(u64::from);
+        session.slots[row].next = due + period - deadline;
+        session.slots[row].job = Some(Job {
+            due,
+            left,
+            budget: budget as i64,
+        });
+    }
+    assert!(session.is_sound(), "{session:?}");
+    session
+}
+
+const KEEP: &str = "keep a job out for a brittle one to come";
+const ALONE: &str = "leave the head alone so";
+const OTHER: &str = "take a candidate other than the head";
+const DUE: &str = "have a candidate due at the limit";
+const LATER: &str = "keep out one due a tick later";
+const IDLE_OUT: &str = "leave idle out";
+const WAIT: &str = "though all can wait";
+const SEVERAL: &str = "have several who can wait";
+const COME: &str = "depend on a brittle job to come";
+const CLOCK: &str = "depend on the clock";
+const NEXT: &str = "depend on the earliest next arrival";
+const ON_D: &str = "depend on D";
+const EQUAL: &str = "depend on a deadline that is equal";
+const TICK: &str = "depend on a tick";
+const ON_IDLE: &str = "depend on idle";
+
+#[test]
+fn mixed_choices_count_by_what_decides() {
+    // The limit is 42, by the next arrival. With word 1 it is row 2 if it may be, and
+    // idle if that may be instead. WAIT is what follows the comma of IDLE_OUT.
+    let sorts = |clock, next, due, words: &[u32]| {
+        let sorts = mixed_sorts(&brittle_to_come(clock, next, [31, due]), words);
+        sorts
+            .into_iter()
+            .filter(|sort| sort != WAIT)
+            .collect::<Vec<_>>()
+    };
+    let kept = [KEEP, ALONE];
+    assert_eq!(
+        sorts(20, 30, 43, &[1]),
+        [&kept[..], &[LATER, IDLE_OUT, COME, TICK, ON_IDLE]].concat()
+    );
+    assert_eq!(
+        sorts(20, 30, 44, &[1]),
+        [&kept[..], &[IDLE_OUT, COME, ON_IDLE]].concat()
+    );
+    // Without a word the head runs by any rule.
+    assert_eq!(sorts(20, 30, 44, &[]), [&kept[..], &[IDLE_OUT]].concat());
+    // By the clock alone, so from 33 on, and without D, from 31 on, row 2 would be kept
+    // out.
+    assert_eq!(
+        sorts(20, 30, 42, &[1]),
+        [OTHER, DUE, IDLE_OUT, SEVERAL, NEXT, ON_D, EQUAL]
+    );
+    assert_eq!(
+        sorts(20, 30, 33, &[1]),
+        [OTHER, IDLE_OUT, SEVERAL, NEXT, ON_D]
+    );
+    assert_eq!(sorts(20, 30, 32, &[1]), [OTHER, IDLE_OUT, SEVERAL, ON_D]);
+    // At 30 it is 42 by the clock, and 32 or 41 by the next arrival.
+    for next in [20, 29] {
+        assert_eq!(
+            sorts(30, next, 42, &[1]),
+            [OTHER, DUE, IDLE_OUT, SEVERAL, CLOCK, ON_D, EQUAL],
+            "{next}"
+        );
+    }
+    // With word 2 it would be idle.
+    assert!(sorts(30, 30, 42, &[2]).contains(&ON_IDLE.to_string()));
+    // Nothing waits, and another kind.
+    let mut empty = brittle_to_come(20, 30, [40, 42]);
+    empty.slots[1].job = None;
+    empty.slots[2].job = None;
+    assert!(mixed_sorts(&empty, &[1]).is_empty());
+    assert!(mixed_sorts(&arrived(&[[2, 10, 10], [3, 20, 15]]), &[1]).is_empty());
+    assert!(mixed_sorts(&arrived(&[[2, 4, 4], [3, 6, 6]]), &[1]).is_empty());
+}
+
+#[test]
+fn mixed_choices_count_by_their_brittle_jobs() {
+    // All three wait: row 0 is the head.
+    let session = arrived(&[[10, 100, 12], [4, 100, 50], [30, 200, 112]]);
+    assert_eq!(
+        mixed_sorts(&session, &[1]),
+        ["have a brittle head before others"]
+    );
+    // Two brittle rows may come for 112 and 74, and row 3 is due at 74, or later.
+    let second = |last: u32, swap: bool| {
+        let mut rows = [[5, 100, 12], [5, 60, 14], [6, 100, 40], [6, 200, last]];
+        if swap {
+            rows.swap(0, 1);
+        }
+        let mut session = arrived(&rows);
+        session.slots[0].job = None;
+        session.slots[1].job = None;
+        let sorts = mixed_sorts(&session, &[1]);
+        let sorts = sorts.iter();
+        let on = sorts.filter_map(|sort| sort.strip_prefix("depend on more than the "));
+        on.map(str::to_string).collect::<Vec<_>>()
+    };
+    assert!(second(74, false).is_empty());
+    assert_eq!(second(75, false), ["first brittle row"]);
+    assert_eq!(second(75, true), ["last"]);
+    assert_eq!(second(112, true), ["last"]);
+    assert!(second(113, true).is_empty());
+}
+
+#[test]
+fn mixed_finishes_count_by_what_they_give() {
+    let sorts = |rows: &[[u32; 3]], clock: u64, arrivals: &[u32], row: u32| {
+        let mut session = Session::new(admit(&rows.concat()).unwrap());
+        perform(&mut session, Call::Arrive(row));
+        session.clock = clock;
+        for row in arrivals {
+            assert_eq!(perform(&mut session, Call::Arrive(*row)).number, 0);
+        }
+        session.choice = Some(Choice { row, left: 1 });
+        let mut calls = MixedCalls::default();
+        calls.add_finish(&session);
+        said_of(&calls)
+    };
+    let three = [[10, 100, 12], [4, 100, 44], [30, 200, 112]];
+    let [gives, brittle] = ["give to some job", "give time of a brittle job"];
+    // Row 2 has V 54, row 1 V 0.
+    assert_eq!(sorts(&three, 0, &[2], 0), [gives, brittle]);
+    let zero = "give to a row of V 0";
+    assert_eq!(sorts(&three, 0, &[1], 0), [gives, brittle, zero]);
+    assert_eq!(sorts(&three, 0, &[2], 1), [gives]);
+    assert!(sorts(&three, 0, &[1], 2).is_empty());
+    // Row 1 is due at 22, and row 0 comes at 4 for 23, row 3 for 54.
+    let close = [[10, 100, 19], [5, 100, 22], [5, 100, 22], [1, 100, 50]];
+    let nothing = "give nothing to a brittle one";
+    assert_eq!(sorts(&close, 4, &[0], 1), [nothing]);
+    assert_eq!(sorts(&close, 4, &[0, 3], 1), [gives, nothing, "do both"]);
+    assert!(sorts(&[[2, 10, 10], [3, 20, 15]], 0, &[1], 0).is_empty());
+}
+
+#[test]
+fn inputs_of_mixed_tables_count_by_what_they_show() {
+    let shown = |input: &str| {
+        let mut mixed = Mixed::default();
+        let input = plain(input).into_bytes();
+        let output = run_watched(&input, |machine, command| mixed.watch(machine, command));
+        mixed.compare(&input, &output);
+        mixed.shown
+    };
+    let start = "T 10 100 12/T 4 100 50/T 30 200 112/A 0/A 1/A 2/";
+    let go_on = |end: &str| shown(&format!("{start}{end}"));
+    // By word 1 row 2 runs for as long as row 1 can wait: it shows the gift. With a
+    // budget of 1 row 0 would not be alone at the first choice.
+    assert_eq!(go_on("G/F/W 1/G/"), [true, false, false]);
+    assert_eq!(go_on("G/F/W 1/W 3/G/"), [false, false, false]);
+    assert_eq!(go_on("W 1/W 1/G/"), [false, false, true]);
+    // Row 0 comes behind row 1, which leaves it nothing. Row 3 would run before it.
+    let close = "T 10 100 19/T 5 100 22/T 5 100 22/T 1 100 50/A 1/A 3/G/R 4/A 0/G/F/W 1/G/";
+    assert!(shown(close)[1]);
+    // Loose and tight tables show nothing of this.
+    let loose = "T 4 100 20/T 3 100 30/A 0/A 1/G/F/W 1/G/";
+    assert_eq!(shown(loose), [false; 3]);
+    assert_eq!(shown("T 2 4 4/T 3 6 6/A 0/A 1/W 1/G/F/W 1/G/"), [false; 3]);
+}
+
+#[test]
+fn too_little_of_mixed_sessions_is_named() {
+    let mut tally = MixedTally::default();
+    assert_eq!(tally.gaps().len(), 15, "the numbers of brittle rows");
+    tally.add(b"", &Mixed::default());
+    let gaps = tally.gaps();
+    assert_eq!(gaps.len(), 15 + 21 + 5 + 3);
+    assert_eq!(
+        gaps[15],
+        "0 mixed choices keep a job out for a brittle one to come (fewer than one in 2 inputs)"
+    );
+    assert_eq!(
+        gaps[15 + 21],
+        "0 mixed finishes give to some job (fewer than one in 2 inputs)"
+    );
+    assert_eq!(
+        gaps[15 + 21 + 5],
+        "0 inputs of a mixed table show that finishes give (fewer than one in 100 inputs)"
+    );
+    let gaps = HeldTally::default().gaps(1);
+    assert_eq!(gaps.len(), 11);
+    assert_eq!(
+        gaps[6],
+        "0 calls are on records that are unsound by 1 tick of a brittle budget \
+        (fewer than one in 2000 calls)"
+    );
+}
+
+/// The sorts of records that this session is of.
+fn held_sorts(session: &Session) -> Vec<String> {
+    let mut tally = HeldTally::default();
+    tally.add(session, session.is_sound());
+    let text = tally.to_string();
+    let text = text.strip_prefix("of the records of all calls ").unwrap();
+    // A comma that belongs to a sort has no number behind it.
+    let text = text.replace("unsound, called", "unsound and called");
+    let text = text.replace("mixed, but", "mixed though");
+    let sorts = text.split(", ").filter_map(|sort| sort.strip_prefix("1 "));
+    sorts.map(str::to_string).collect()
+}
+
+#[test]
+fn records_count_by_what_they_hold() {
+    let sound = "are sound and mixed";
+    let start = brittle_to_come(20, 30, [40, 43]);
+    assert_eq!(held_sorts(&start), [sound]);
+    let choosing = |row, left| {
+        let choice = Some(Choice { row, left });
+        held_sorts(&Session {
+            choice,
+            ..start.clone()
+        })
+    };
+    assert_eq!(choosing(1, 4), [sound]);
+    assert_eq!(
+        choosing(IDLE, 6),
+        [sound, "have idle in force though a job waits"]
+    );
+    assert!(choosing(IDLE, 7).is_empty());
+    assert_eq!(
+        choosing(2, 6),
+        [sound, "have a job in force that is due too late"]
+    );
+    let mut in_time = brittle_to_come(20, 30, [40, 42]);
+    in_time.choice = Some(Choice { row: 2, left: 6 });
+    assert_eq!(
+        held_sorts(&in_time),
+        [sound, "have a job in force that is due in time"]
+    );
+    // D − C of row 1 is 46, and that of row 0 does not matter.
+    let with_budget = |row: usize, budget| {
+        let mut session = arrived(&[[10, 100, 12], [4, 100, 50], [30, 200, 112]]);
+        session.slots[row].job.as_mut().unwrap().budget = budget;
+        held_sorts(&session)
+    };
+    let waits = "have a waiting brittle job";
+    assert_eq!(with_budget(0, 0), [sound, waits]);
+    assert_eq!(
+        with_budget(0, 1),
+        ["are unsound by 1 tick of a brittle budget"]
+    );
+    assert!(with_budget(0, 2).is_empty());
+    let limit = "have a budget at its limit above V";
+    assert_eq!(with_budget(1, 46), [sound, waits, limit]);
+    assert_eq!(with_budget(1, 47), ["are unsound by 1 tick of another one"]);
+    assert!(with_budget(1, 48).is_empty());
+    let called = |mut session: Session, kind| {
+        session.kind = kind;
+        held_sorts(&session)
+    };
+    assert_eq!(
+        called(brittle_to_come(20, 30, [40, 43]), Kind::Loose),
+        ["are unsound and called loose"]
+    );
+    let fresh = |rows: &[[u32; 3]]| Session::new(admit(&rows.concat()).unwrap());
+    let mixed = fresh(&[[1, 2, 2], [2, 4, 4]]);
+    assert_eq!(called(mixed, Kind::Tight), ["are unsound and called tight"]);
+    let other = "are called mixed though loose or tight";
+    for rows in [[[2, 4, 4], [3, 6, 6]], [[2, 10, 10], [3, 20, 15]]] {
+        assert_eq!(called(fresh(&rows), Kind::Mixed), [other]);
+        assert!(held_sorts(&fresh(&rows)).is_empty());
+    }
+}
+
+#[test]
+fn sound_sessions_reach_every_mixed_choice() {
+    let mut rng = Rng::new(14);
+    let mut calls = MixedCalls::default();
+    for _ in 0..20_000 {
+        let session = sound_session(&mut rng);
+        calls.add_choice(&session, &[rng.draw() as u32, rng.draw() as u32]);
+        if session.choice.is_some_and(|choice| choice.row != IDLE) {
+            calls.add_finish(&session);
+        }
+    }
+    assert!(calls.gaps(Among::Calls(20_000)).is_empty(), "{calls}");
 }

@@ -44,6 +44,9 @@ returns-3 c = search (needs, judge-cases)
 returns-4 : tie.Need-returns-4
 returns-4 c = search (needs, judge-cases)
 
+returns-5 : tie.Need-returns-5
+returns-5 c = search (needs, judge-cases)
+
 pub judge-spec : {M : Type 1} → statement M
 judge-spec =
     tie.close
@@ -60,4 +63,5 @@ judge-spec =
     returns-2
     refused-requires-2
     returns-3
-    returns-4)
+    returns-4
+    returns-5)

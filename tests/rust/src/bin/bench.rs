@@ -7,7 +7,7 @@ use std::path::Path;
 use std::process::{self, Stdio};
 use std::time::Instant;
 
-use shuffle_model::calls::{lengths, limit, WORDS};
+use shuffle_model::calls::{candidates, lengths, limit, WORDS};
 use shuffle_model::driver::Driver;
 use shuffle_model::options::{fail, Options};
 use shuffle_model::session::IDLE;
@@ -115,10 +115,13 @@ fn inputs() -> Vec<(&'static str, Vec<u8>)> {
     let loose: Vec<Row> = (0..16)
         .map(|row| Row::from([20, 3_000 + 50 * row, 3_000 + 50 * row]))
         .collect();
-    let mut tight: Vec<Row> = (0..16)
+    let mut mixed: Vec<Row> = (0..16)
         .map(|row| Row::from([1, 40 + row, 40 + row]))
         .collect();
-    tight[0].deadline = 10;
+    mixed[0].deadline = 10;
+    // V is 20 − 8 − 15 = −3 and 30 − 15 − 2 × 8 = −1.
+    let mut tight = [Row::from([1, 30, 30]); 16];
+    tight[0] = Row::from([8, 20, 20]);
     // The busy length is 360,600.
     let long_busy = [2, 3, 8, 25, 601, 361_201].map(|period| Row::from([1, period, period]));
     let single = [Row::from([1, 1, 1])];
@@ -133,6 +136,7 @@ fn inputs() -> Vec<(&'static str, Vec<u8>)> {
             build(&loose, Kind::Loose, short_span_after_others),
         ),
         ("16 rows tight", build(&tight, Kind::Tight, whole_span)),
+        ("16 rows mixed", build(&mixed, Kind::Mixed, short_turn)),
         (
             "6 rows tight, long busy length",
             build(&long_busy, Kind::Tight, whole_span),
@@ -198,6 +202,18 @@ fn span_of_idle(driver: &mut Driver, passed: usize) {
             }
             driver.push(Command::Word(word));
         }
+    }
+    driver.push(Command::Choose);
+    advance(driver);
+}
+
+/// Words that take the last candidate for one tick, where there are several.
+fn short_turn(driver: &mut Driver) {
+    arrivals(driver);
+    let session = &driver.machine.session;
+    if let last @ 1.. = candidates(session).len() - 1 {
+        driver.push(Command::Word(last as u32));
+        driver.push(Command::Word(0));
     }
     driver.push(Command::Choose);
     advance(driver);

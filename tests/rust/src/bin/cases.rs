@@ -12,21 +12,24 @@ use shuffle_model::draws::Draws;
 use shuffle_model::driver::table_text;
 use shuffle_model::gifts::Gifts;
 use shuffle_model::inputs::{
-    full_run, light_run, odd_number_input, overloaded_table, short_draws, short_gifts, short_run,
-    short_ties, small_run, ODD_LINES, ODD_NUMBERS, SPECIALS,
+    full_run, light_run, odd_number_input, overloaded_table, short_draws, short_gifts,
+    short_limits, short_run, short_ties, small_run, ODD_LINES, ODD_NUMBERS, SPECIALS,
 };
+use shuffle_model::mixed::Mixed;
 use shuffle_model::options::fail;
 use shuffle_model::overloaded::late_overload_rows;
 use shuffle_model::overloads::OverloadTally;
 use shuffle_model::rng::Rng;
-use shuffle_model::specification::{draws, gifts, listing, plain, ties, EXAMPLES, OVERLOADS};
+use shuffle_model::specification::{
+    draws, gifts, listing, mixed, plain, ties, EXAMPLES, OVERLOADS,
+};
 use shuffle_model::table::{admit_rows, Row};
 use shuffle_model::tally::Among;
 use shuffle_model::text::{leading_rows, run, run_watched};
 use shuffle_model::ties::Ties;
 
 const SEED: u64 = 12;
-const CASES: usize = 465;
+const CASES: usize = 488;
 const LONGEST_CASE: usize = 3_999;
 const LONGEST_RANDOM_CASE: usize = 500;
 /// Random tables that are overloaded, or nearly, and the longest of them.
@@ -39,6 +42,9 @@ const LEAST_TIES: usize = 60;
 const LEAST_GIFTS: usize = 30;
 /// So many cases must show in an answer that a word is passed over.
 const LEAST_DRAWS: usize = 40;
+/// So many cases must show in an answer that a brittle job to come keeps another one
+/// from running.
+const LEAST_LIMITS: usize = 25;
 
 fn main() -> io::Result<()> {
     let arguments: Vec<String> = std::env::args().skip(1).collect();
@@ -52,6 +58,8 @@ fn main() -> io::Result<()> {
     assert!(gifts >= LEAST_GIFTS, "{gifts} cases show a gift");
     let draws = cases.iter().filter(|case| shows_a_draw(case)).count();
     assert!(draws >= LEAST_DRAWS, "{draws} cases show a draw");
+    let limits = cases.iter().filter(|case| shows_a_limit(case)).count();
+    assert!(limits >= LEAST_LIMITS, "{limits} cases show a limit");
     let gaps = overload_gaps(&cases);
     assert!(gaps.is_empty(), "{gaps:?}");
     let (stdin, stdout) = store(&cases);
@@ -80,14 +88,15 @@ fn all_cases() -> Vec<Vec<u8>> {
     cases.extend(damaged_cases(&mut rng, 3));
     cases.retain(|case| case.len() <= LONGEST_CASE);
     while cases.len() < CASES {
-        let make = match rng.below(19) {
+        let make = match rng.below(28) {
             0 => light_run,
             1 | 2 => small_run,
             3 => full_run,
             4 => short_run,
-            5..12 => short_ties,
-            12..16 => short_gifts,
-            _ => short_draws,
+            5..17 => short_ties,
+            17..21 => short_gifts,
+            21..24 => short_draws,
+            _ => short_limits,
         };
         let case = make(&mut rng);
         if case.len() <= LONGEST_RANDOM_CASE {
@@ -109,7 +118,7 @@ fn fixed_cases() -> Vec<Vec<u8>> {
     let each_line = ODD_LINES.iter().map(|line| (line, &"4294967296"));
     let odd = each_number.chain(each_line);
     let odd = odd.map(|(line, number)| odd_number_input(line, number));
-    let moments = ties().into_iter().chain(gifts()).chain(draws());
+    let moments = [ties(), gifts(), draws(), mixed()].into_iter().flatten();
     let moments = moments.map(|(input, _)| input.into_bytes());
     let fixed = listing.chain(tables).chain(texts).chain(many_rows);
     fixed.chain(odd).chain(moments).collect()
@@ -143,6 +152,12 @@ fn shows_a_draw(case: &[u8]) -> bool {
     let output = run_watched(case, |machine, command| draws.watch(machine, command));
     draws.compare(case, &output);
     draws.shown
+}
+
+fn shows_a_limit(case: &[u8]) -> bool {
+    let mut mixed = Mixed::default();
+    run_watched(case, |machine, command| mixed.watch(machine, command));
+    mixed.has("depend on a brittle job to come")
 }
 
 /// Which sorts of overloaded tables are rarer among the cases than they must be among

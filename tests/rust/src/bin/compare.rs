@@ -8,6 +8,7 @@ use std::time::Instant;
 use shuffle_model::draws::{DrawTally, Draws};
 use shuffle_model::gifts::{GiftTally, Gifts};
 use shuffle_model::inputs::{random_input, KINDS};
+use shuffle_model::mixed::{Mixed, MixedTally};
 use shuffle_model::options::{fail, Options};
 use shuffle_model::overloads::OverloadTally;
 use shuffle_model::process::{Finished, Program};
@@ -19,8 +20,9 @@ use shuffle_model::ties::{TieTally, Ties};
 
 const THREADS: usize = 2;
 /// From this many inputs on, every reachable answer must have been reached, and
-/// ties that arrival decides, finishes that give, draws that pass words over and
-/// tables of which a wrong rule would name another overload must be many enough.
+/// ties that arrival decides, finishes that give, draws that pass words over, tables
+/// of which a wrong rule would name another overload, and mixed tables with all that
+/// brittle rows decide must be many enough.
 const FULL_COUNT: u64 = 20_000;
 const DEFAULT_SEED: u64 = 20_250_301;
 
@@ -48,6 +50,7 @@ fn main() {
     gaps.extend(report.gifts.gaps());
     gaps.extend(report.draws.gaps());
     gaps.extend(report.overloads.gaps(Among::Inputs(count)));
+    gaps.extend(report.mixed.gaps());
     if count >= FULL_COUNT && !gaps.is_empty() {
         println!("FAILED: {}", gaps.join(", "));
         exit(1);
@@ -99,13 +102,16 @@ impl<'a> Shared<'a> {
             let mut ties = Ties::default();
             let mut gifts = Gifts::default();
             let mut draws = Draws::default();
+            let mut mixed = Mixed::default();
             let expected = run_watched(&input, |machine, command| {
                 ties.watch(machine, command);
                 gifts.watch(machine, command);
                 draws.watch(machine, command);
+                mixed.watch(machine, command);
             });
             gifts.compare(&input, &expected);
             draws.compare(&input, &expected);
+            mixed.compare(&input, &expected);
             if fault(self.program, &input, &expected).is_some() {
                 report.disagreement = Some(case);
                 self.stop.store(true, Ordering::Relaxed);
@@ -116,6 +122,7 @@ impl<'a> Shared<'a> {
             report.gifts.add(&gifts);
             report.draws.add(&draws);
             report.overloads.add(&leading_rows(&input));
+            report.mixed.add(&input, &mixed);
         }
         report
     }
@@ -129,6 +136,7 @@ struct Report {
     gifts: GiftTally,
     draws: DrawTally,
     overloads: OverloadTally,
+    mixed: MixedTally,
     disagreement: Option<u64>,
 }
 
@@ -142,6 +150,7 @@ impl Report {
         self.gifts.merge(other.gifts);
         self.draws.merge(other.draws);
         self.overloads.merge(other.overloads);
+        self.mixed.merge(other.mixed);
         // The lowest case, so that equal seeds show equal disagreements.
         let found = self.disagreement.into_iter().chain(other.disagreement);
         self.disagreement = found.min();
@@ -153,7 +162,7 @@ impl Report {
             .map(|(kind, inputs)| format!("{} {inputs}", kind.name))
             .collect();
         format!(
-            "{} inputs agree ({}); {} output lines; answers {}; {}; {}; {}; {}",
+            "{} inputs agree ({}); {} output lines; answers {}; {}; {}; {}; {}; {}",
             self.inputs.iter().sum::<u64>(),
             by_kind.join(", "),
             self.answers.lines(),
@@ -161,7 +170,8 @@ impl Report {
             self.ties,
             self.gifts,
             self.draws,
-            self.overloads
+            self.overloads,
+            self.mixed
         )
     }
 }

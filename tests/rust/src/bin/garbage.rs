@@ -9,6 +9,7 @@ use std::time::Instant;
 use shuffle_model::batches::{Batch, BatchTally};
 use shuffle_model::draws::{Drawn, DrawnChoices};
 use shuffle_model::gifts::FinishTally;
+use shuffle_model::mixed::{HeldTally, MixedCalls};
 use shuffle_model::options::Options;
 use shuffle_model::overloaded::{late_overload_rows, overloaded_rows, shorten};
 use shuffle_model::overloads::OverloadTally;
@@ -35,7 +36,8 @@ const DEFAULT_SEED: u64 = 20_250_301;
 /// The answer numbers of the calls on records: 0 to 12.
 const NUMBERS: usize = 13;
 /// From this many calls on, each sort of tie must have been reached, and each
-/// sort of finish, of batch, of draw and of overload often enough.
+/// sort of finish, of batch, of draw, of overload, and of what has to do with brittle
+/// rows often enough.
 const FULL_CALLS: u64 = 1_000_000;
 /// Most calls of a history.
 const STEPS: u32 = 400;
@@ -75,6 +77,8 @@ fn main() {
         batches: BatchTally::default(),
         draws: DrawnChoices::default(),
         overloads: OverloadTally::default(),
+        mixed: MixedCalls::default(),
+        held: HeldTally::default(),
         one_by_one: 0,
     };
     test.long_lists();
@@ -93,6 +97,8 @@ fn main() {
     gaps.extend(test.batches.gaps(test.calls()));
     gaps.extend(test.draws.gaps(Among::Calls(test.calls())));
     gaps.extend(test.overloads.gaps(Among::Calls(test.calls())));
+    gaps.extend(test.mixed.gaps(Among::Calls(test.calls())));
+    gaps.extend(test.held.gaps(test.calls()));
     if calls >= FULL_CALLS && !gaps.is_empty() {
         println!("FAILED: {}", gaps.join(", "));
         exit(1);
@@ -112,6 +118,8 @@ struct Test {
     batches: BatchTally,
     draws: DrawnChoices,
     overloads: OverloadTally,
+    mixed: MixedCalls,
+    held: HeldTally,
     /// Batches whose rows also arrived one by one, on a copy.
     one_by_one: u64,
 }
@@ -306,6 +314,9 @@ impl Test {
         }
         self.counts[source as usize][reply.number as usize] += 1;
         self.sound += u64::from(was_sound);
+        if let Some(session) = view(&before) {
+            self.held.add(&session, was_sound);
+        }
         match request {
             Request::Admit(words) if reply.number >= 3 => self.overloads.add(&rows_of(words)),
             _ if reply.is_accepted() => self.count(&before, request),
@@ -320,8 +331,12 @@ impl Test {
             (Request::Choose(words), Some(session)) => {
                 self.ties.add(&session, words);
                 self.draws.add(&Drawn::new(&session, words));
+                self.mixed.add_choice(&session, words);
             }
-            (Request::Finish, Some(session)) => self.finishes.add(&session),
+            (Request::Finish, Some(session)) => {
+                self.finishes.add(&session);
+                self.mixed.add_finish(&session);
+            }
             _ => {}
         }
     }
@@ -392,7 +407,7 @@ impl Test {
         let sources = SOURCES.map(|(source, name)| format!("{name} {}", self.calls_of(source)));
         let answers = (0..NUMBERS).map(|number| format!("{number}:{}", self.count_of(number)));
         format!(
-            "{} calls agree ({}; {} on sound records); answers {}; {}; {}; {}; {}; {}; the rows of {} of \
+            "{} calls agree ({}; {} on sound records); answers {}; {}; {}; {}; {}; {}; {}; {}; the rows of {} of \
             the batches also arrived one by one",
             self.calls(),
             sources.join(", "),
@@ -402,6 +417,8 @@ impl Test {
             self.finishes,
             self.draws,
             self.overloads,
+            self.mixed,
+            self.held,
             self.batches,
             self.one_by_one
         )

@@ -14,8 +14,8 @@ use shuffle_model::hard::{
 use shuffle_model::options::Options;
 use shuffle_model::record::{expected, Request};
 use shuffle_model::rng::Rng;
-use shuffle_model::shuffle::{number, Session as Record, TIGHT};
-use shuffle_model::table::{busy_length, Row};
+use shuffle_model::shuffle::{number, Session as Record};
+use shuffle_model::table::{busy_length, kind_by_budgets, Row};
 
 const DEFAULT_SEED: u64 = 20_250_301;
 /// The tables reported of each class.
@@ -234,7 +234,7 @@ impl Trial {
             number::ACCEPTED if utilisation(&rows) <= ROOMY => (Class::Roomy, record),
             number::ACCEPTED => (Class::Full, record),
             number::OVERLOAD if sought == Class::Overloaded => (Class::Overloaded, record),
-            _ => (Class::Refused, made_up(&words)),
+            _ => (Class::Refused, made_up(&rows)),
         };
         Trial {
             rows,
@@ -293,13 +293,14 @@ fn words_of(rows: &[Row]) -> Vec<u32> {
 
 /// The record of a refused table, as a host could make it up (§5.1): of the
 /// kind for which the whole table is decided.
-fn made_up(words: &[u32]) -> Record {
+fn made_up(rows: &[Row]) -> Record {
     let mut record = Record {
-        kind: TIGHT,
-        count: words.len() as u64 / 3,
+        kind: kind_by_budgets(rows) as u64,
+        count: rows.len() as u64,
         ..Record::NONE
     };
-    record.words[..words.len()].copy_from_slice(words);
+    let words = words_of(rows);
+    record.words[..words.len()].copy_from_slice(&words);
     record
 }
 

@@ -2,9 +2,9 @@
 
 #![allow(dead_code)] // no test uses all of it
 
-use shuffle_model::calls::{perform, Call};
+use shuffle_model::calls::{perform, Answer, Call};
 use shuffle_model::meter::Question;
-use shuffle_model::session::Session;
+use shuffle_model::session::{Choice, Job, Session, Slot};
 use shuffle_model::table::admit;
 
 /// C, T, D of four rows. With every D below every T, V of a row is its D less
@@ -24,6 +24,48 @@ pub fn arrived(rows: &[[u32; 3]]) -> Session {
         assert_eq!(perform(&mut session, Call::Arrive(row)).number, 0);
     }
     session
+}
+
+pub fn job(due: u64, left: u64, budget: i64) -> Option<Job> {
+    Some(Job { due, left, budget })
+}
+
+/// A sound session: for each row its numbers and its waiting job, if any.
+pub fn waiting(clock: u64, rows: &[([u32; 3], Option<Job>)]) -> Session {
+    let numbers: Vec<[u32; 3]> = rows.iter().map(|(row, _)| *row).collect();
+    let mut session = fresh(&numbers);
+    session.clock = clock;
+    for (slot, (row, job)) in session.slots.iter_mut().zip(rows) {
+        let [_, period, deadline] = row.map(u64::from);
+        if let Some(waiting) = job {
+            *slot = Slot {
+                next: waiting.due + period - deadline,
+                job: *job,
+            };
+        }
+    }
+    assert!(session.is_sound(), "{session:?}");
+    session
+}
+
+/// Makes a call that must be accepted and leave a sound session.
+pub fn accept(session: &mut Session, call: Call) -> Answer {
+    let answer = perform(session, call);
+    assert_eq!(answer.number, 0, "{call:?}");
+    assert!(session.is_sound(), "{session:?}");
+    answer
+}
+
+/// Finishes the job of a row, of which so many ticks are left in the choice.
+pub fn finish(session: &mut Session, row: u32, left: u64) -> [u64; 2] {
+    session.choice = Some(Choice { row, left });
+    accept(session, Call::Finish).values
+}
+
+/// The budget of each row's job, none if no job of the row waits.
+pub fn budgets(session: &Session) -> Vec<Option<i64>> {
+    let slots = session.slots.iter();
+    slots.map(|slot| slot.job.map(|job| job.budget)).collect()
 }
 
 /// The question about these stretches, which are of one length.

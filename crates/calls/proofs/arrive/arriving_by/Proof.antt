@@ -13,11 +13,11 @@ value-of-requires c κs = search needs
 start-budget-requires : tie.Need-start-budget-requires
 start-budget-requires c κs = search needs
 
+add-t8 : tie.Need-add-t8
+add-t8 c = search needs
+
 add-t9 : tie.Need-add-t9
 add-t9 c = search needs
-
-add-t10 : tie.Need-add-t10
-add-t10 c = search needs
 
 returns : tie.Need-returns
 returns c = search (needs, arrived-is)
@@ -25,4 +25,4 @@ returns c = search (needs, arrived-is)
 pub arriving-by-spec : {M : Type 1} → statement M
 arriving-by-spec =
     tie.close
-    (tie.spec fit-row-requires value-of-requires start-budget-requires add-t9 add-t10 returns)
+    (tie.spec fit-row-requires value-of-requires start-budget-requires add-t8 add-t9 returns)

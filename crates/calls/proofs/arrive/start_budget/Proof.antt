@@ -16,9 +16,6 @@ magnitude-requires c κs = search needs
 returns-2 : tie.Need-returns-2
 returns-2 c = search (needs, start-cases)
 
-returns-3 : tie.Need-returns-3
-returns-3 c = search (needs, start-cases)
-
 pub start-budget-spec : {M : Type 1} → statement M
 start-budget-spec =
-    tie.close (tie.spec below-zero-requires returns magnitude-requires returns-2 returns-3)
+    tie.close (tie.spec below-zero-requires returns magnitude-requires returns-2)

@@ -2,14 +2,15 @@
 use borrow.Author.Needs.{needs}
 use Rattle.session.specs.Calls.{finishOf}
 use Rattle.session.specs.Guard.{guarded-laws}
+use Rattle.session.specs.Soundness.{checked-marks}
 use Rattle.calls.proofs.finish.finish.Statement.{statement}
 use Rattle.calls.proofs.finish.finish.Tie as tie
 
-is-sound-requires : tie.Need-is-sound-requires
-is-sound-requires c κs = search needs
+check-of-requires : tie.Need-check-of-requires
+check-of-requires c κs = search needs
 
-finish-sound-requires : tie.Need-finish-sound-requires
-finish-sound-requires c κs = search (needs, guarded-laws)
+finish-by-requires : tie.Need-finish-by-requires
+finish-by-requires c κs = search (needs, guarded-laws, checked-marks)
 
 returns : tie.Need-returns
 unfolding finishOf
@@ -24,4 +25,4 @@ returns-2 c = search (needs, guarded-laws)
 
 pub finish-spec : {M : Type 1} → statement M
 finish-spec =
-    tie.close (tie.spec is-sound-requires finish-sound-requires returns refuse-requires returns-2)
+    tie.close (tie.spec check-of-requires finish-by-requires returns refuse-requires returns-2)

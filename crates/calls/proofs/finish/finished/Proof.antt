@@ -12,10 +12,10 @@ use Rattle.calls.proofs.finish.finished.Statement.{statement}
 use Rattle.calls.proofs.finish.finished.Tie as tie
 
 abbrev Inv-loop : tie.InvT-loop
-Inv-loop q₀ count c kind e rows k i₀ q i = (i ≤ count) × (q ≡ doneTo q₀ (givenJob q₀) i)
+Inv-loop brittle q₀ count c e rows k i₀ q i = (i ≤ count) × (q ≡ doneTo q₀ (givenJob q₀) i)
 
 abbrev μ-loop : tie.MeasureT-loop
-μ-loop q₀ count c kind e rows k i₀ q i = count - i
+μ-loop brittle q₀ count c e rows k i₀ q i = count - i
 
 mul-e : tie.Need-mul-e Inv-loop μ-loop
 mul-e c = search needs
@@ -41,12 +41,15 @@ mul-j c = search needs
 element-copy-out-j : tie.Need-element-copy-out-j Inv-loop μ-loop
 element-copy-out-j c = search needs
 
+array-read-given-job : tie.Need-array-read-given-job Inv-loop μ-loop
+array-read-given-job c = search needs
+
 given-job-requires : tie.Need-given-job-requires Inv-loop μ-loop
 unfolding rowsOf
-given-job-requires c κs = ending-rows _ _ (c .before .before .before .before .before .before .pre) (search needs)
+given-job-requires c κs = ending-rows _ _ (c .before .before .before .before .before .before .pre .0) (search needs)
 
-mul-t21 : tie.Need-mul-t21 Inv-loop μ-loop
-mul-t21 c = search needs
+mul-t22 : tie.Need-mul-t22 Inv-loop μ-loop
+mul-t22 c = search needs
 
 element-set-from-q : tie.Need-element-set-from-q Inv-loop μ-loop
 element-set-from-q c = search needs
@@ -78,8 +81,9 @@ finished-spec =
     loop-holds
     mul-j
     element-copy-out-j
+    array-read-given-job
     given-job-requires
-    mul-t21
+    mul-t22
     element-set-from-q
     add-i
     loop-less

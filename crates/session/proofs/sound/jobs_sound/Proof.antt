@@ -13,10 +13,10 @@ use Rattle.session.proofs.sound.jobs_sound.Statement.{statement}
 use Rattle.session.proofs.sound.jobs_sound.Tie as tie
 
 abbrev Inv-loop : tie.InvT-loop
-Inv-loop s n clock kind e rows i₀ i = (i ≤ n) × (allTo (soundJob s) i ≡ true)
+Inv-loop s brittle n clock e rows i₀ i = (i ≤ n) × (allTo (soundJob s) i ≡ true)
 
 abbrev μ-loop : tie.MeasureT-loop
-μ-loop s n clock kind e rows i₀ i = n - i
+μ-loop s brittle n clock e rows i₀ i = n - i
 
 mul-e : tie.Need-mul-e Inv-loop μ-loop
 mul-e c = search needs
@@ -35,6 +35,9 @@ mul-row-sound c = search needs
 
 element-copy-out-row-sound : tie.Need-element-copy-out-row-sound Inv-loop μ-loop
 element-copy-out-row-sound c = search needs
+
+array-read-row-sound : tie.Need-array-read-row-sound Inv-loop μ-loop
+array-read-row-sound c = search needs
 
 row-sound-requires : tie.Need-row-sound-requires Inv-loop μ-loop
 unfolding rowsOf
@@ -69,6 +72,7 @@ jobs-sound-spec =
     loop-holds
     mul-row-sound
     element-copy-out-row-sound
+    array-read-row-sound
     row-sound-requires
     add-i
     loop-less

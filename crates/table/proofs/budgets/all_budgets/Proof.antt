@@ -1,7 +1,7 @@
 -- `table::budgets::all_budgets` meets its contract. Assumes nothing.
-use borrow.Author.Needs.{needs}
 use Prim.Native.Nat.{_≤_, _-_}
 use mathlib.Core.Path.{_≡_}
+use borrow.Author.Needs.{needs}
 use Rattle.table.specs.Budgets.{budgetsTo, budgets-laws}
 use Rattle.table.specs.Rows.{tasksOf}
 use Rattle.table.proofs.budgets.all_budgets.Statement.{statement}
@@ -22,8 +22,23 @@ loop-holds c = search (needs, budgets-laws)
 value-of-requires : tie.Need-value-of-requires Inv-loop μ-loop
 value-of-requires c κs = search needs
 
-put-requires : tie.Need-put-requires Inv-loop μ-loop
-put-requires c κs = search needs
+below-zero-requires : tie.Need-below-zero-requires Inv-loop μ-loop
+below-zero-requires c κs = search needs
+
+mul-v : tie.Need-mul-v Inv-loop μ-loop
+mul-v c = search needs
+
+element-set-from-v : tie.Need-element-set-from-v Inv-loop μ-loop
+element-set-from-v c = search needs
+
+element-write-b : tie.Need-element-write-b Inv-loop μ-loop
+element-write-b c = search needs
+
+still-loose-requires : tie.Need-still-loose-requires Inv-loop μ-loop
+still-loose-requires c κs = search needs
+
+now-firm-requires : tie.Need-now-firm-requires Inv-loop μ-loop
+now-firm-requires c κs = search needs
 
 add-i : tie.Need-add-i Inv-loop μ-loop
 add-i c = search needs
@@ -46,7 +61,12 @@ all-budgets-spec =
     count-requires
     loop-holds
     value-of-requires
-    put-requires
+    below-zero-requires
+    mul-v
+    element-set-from-v
+    element-write-b
+    still-loose-requires
+    now-firm-requires
     add-i
     loop-less
     loop-again

@@ -28,6 +28,9 @@ returns-3 c = search (needs, kind-fit-cases)
 returns-4 : tie.Need-returns-4
 returns-4 c = search (needs, kind-fit-cases)
 
+returns-5 : tie.Need-returns-5
+returns-5 c = search (needs, kind-fit-cases)
+
 pub fit-kind-spec : {M : Type 1} → statement M
 fit-kind-spec =
     tie.close
@@ -39,4 +42,5 @@ fit-kind-spec =
     returns-2
     search-requires
     returns-3
-    returns-4)
+    returns-4
+    returns-5)

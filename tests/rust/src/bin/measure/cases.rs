@@ -1,23 +1,26 @@
 //! What is measured: the tables, and each call on a record that is ready for it.
 
 use shuffle_model::record::Request;
-use shuffle_model::shuffle::{self, Session as Record};
-use shuffle_model::table::{busy_length, Row};
+use shuffle_model::shuffle::Session as Record;
+use shuffle_model::table::{busy_length, Kind, Row};
 
 /// The kinds of tables, by what the check of soundness has to do.
 #[derive(Clone, Copy, Debug, PartialEq, Eq)]
 pub enum Shape {
     Loose,
-    /// Tight, with a busy length of some thirty ticks.
+    /// Tight, with a busy length of 378 ticks.
     Short,
-    /// Tight, with a busy length of 839,790 ticks and more.
+    /// Tight, with a busy length of 999,180 ticks and more.
     Long,
+    /// Mixed, with a busy length of 840 ticks.
+    Mixed,
 }
 
-pub const SHAPES: [(Shape, &str); 3] = [
+pub const SHAPES: [(Shape, &str); 4] = [
     (Shape::Loose, "loose"),
     (Shape::Short, "tight, short"),
     (Shape::Long, "tight, long"),
+    (Shape::Mixed, "mixed"),
 ];
 
 pub const CALLS: [&str; 6] = [
@@ -46,7 +49,7 @@ fn words_for(call: &str, last: u32) -> Vec<u32> {
     }
 }
 
-/// The table of a shape with so many rows; no table of one row is tight.
+/// The table of a shape with so many rows; a table of one row is loose.
 pub fn table(shape: Shape, count: u32) -> Option<Vec<Row>> {
     let others = 1..count;
     match shape {
@@ -57,12 +60,14 @@ pub fn table(shape: Shape, count: u32) -> Option<Vec<Row>> {
                 .collect(),
         ),
         _ if count < 2 => None,
+        // V is 140 − 56 − 105 = −21 and 210 − 105 − 2 × 56 = −7.
         Shape::Short => Some(
-            [Row::from([1, 40, 16])]
+            [Row::from([56, 140, 140])]
                 .into_iter()
-                .chain(others.map(|_| Row::from([30 / (count - 1), 40, 40])))
+                .chain(others.map(|_| Row::from([105 / (count - 1), 210, 210])))
                 .collect(),
         ),
+        Shape::Mixed => Some((0..count).map(|row| mixed_row(row, count / 2)).collect()),
         // The utilisation of the first row is close to 1, so that request(r)
         // is only a little above r, and the plain iteration is slow.
         Shape::Long => Some(
@@ -70,10 +75,19 @@ pub fn table(shape: Shape, count: u32) -> Option<Vec<Row>> {
                 .into_iter()
                 .chain(others.map(|row| {
                     let period = 1_000_000 - row;
-                    Row::from([20_000 / (count - 1), period, period])
+                    Row::from([23_800 / (count - 1), period, period])
                 }))
                 .collect(),
         ),
+    }
+}
+
+/// A row of the mixed table, in which every second row is brittle and due last: V is
+/// 1,200 − 280 − 2 × 560 = −200. That of the others is 1,000 − 840 and more.
+fn mixed_row(row: u32, half: u32) -> Row {
+    match row % 2 {
+        0 => Row::from([560 / half, 1_150, 1_000 + 10 * row]),
+        _ => Row::from([280 / half, 1_200, 1_200]),
     }
 }
 
@@ -90,10 +104,10 @@ pub fn busy(shape: Shape, count: u32) -> u64 {
 }
 
 /// A call, and a record on which it is accepted: every row has a job, but for
-/// arrive, which brings the last one. For choose no choice is in force. For
-/// advance and finish the last candidate among the jobs is chosen, so that this
-/// finish gives nothing; for "finish head" the head is, so that in a loose
-/// session it gives to all others.
+/// arrive, which brings the last one. For choose no choice is in force; in a loose and
+/// in a mixed session every row is a candidate. For advance and finish the last
+/// candidate among the jobs is chosen, so that this finish gives nothing; for "finish
+/// head" the head is, so that it gives to all others that are not brittle.
 pub struct Case {
     pub request: Request,
     pub record: Record,
@@ -137,9 +151,10 @@ impl Case {
     /// The kind that the record's table was admitted with.
     pub fn kind_is(&self, shape: Shape) -> bool {
         let kind = match shape {
-            Shape::Loose => shuffle::LOOSE,
-            Shape::Short | Shape::Long => shuffle::TIGHT,
+            Shape::Loose => Kind::Loose,
+            Shape::Short | Shape::Long => Kind::Tight,
+            Shape::Mixed => Kind::Mixed,
         };
-        self.record.kind == kind
+        self.record.kind == kind as u64
     }
 }

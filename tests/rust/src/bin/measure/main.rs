@@ -4,6 +4,8 @@
 mod arrivals;
 mod cases;
 mod count;
+mod differing;
+mod host;
 mod meters;
 mod overloads;
 mod sides;
@@ -14,6 +16,8 @@ use std::path::Path;
 
 use cases::{busy, table, Case, Shape, CALLS, CHOICES, SHAPES};
 use count::{functions, of_one_call, repeat, COUNTED};
+use shuffle_model::calls::candidates;
+use shuffle_model::gifts::{shares, Share};
 use shuffle_model::options::Options;
 use shuffle_model::record::view;
 use shuffle_model::session::Session;
@@ -40,13 +44,7 @@ fn main() {
     }
     let scratch = Path::new(options.required("--scratch"));
     let passing = passing_tables();
-    check_all(&tables(&ROWS), &CALLS);
-    check_all(&passing, &CHOICES);
-    for (shape, _, count) in tables(&ROWS) {
-        arrivals::check(shape, count);
-    }
-    meters::check();
-    overloads::check();
+    check_everything(&passing);
     let times = time_all(&tables(&ROWS), &CALLS);
     print_summary(&times);
     print_times("Time of a call, in ns", &times);
@@ -63,6 +61,7 @@ fn main() {
     print_growth(&counts);
     meters::print(scratch);
     overloads::print(scratch);
+    differing::print();
 }
 
 /// A table: its shape, the name of that, and its number of rows.
@@ -92,6 +91,19 @@ fn case(shape: Shape, count: u32, call: &str) -> (Case, Session) {
     (case, session)
 }
 
+/// What must hold for the figures to mean what they say.
+fn check_everything(passing: &[Named]) {
+    check_all(&tables(&ROWS), &CALLS);
+    check_all(passing, &CHOICES);
+    check_mixed();
+    for (shape, _, count) in tables(&ROWS) {
+        arrivals::check(shape, count);
+    }
+    meters::check();
+    overloads::check();
+    differing::check();
+}
+
 fn check_all(tables: &[Named], calls: &[&str]) {
     for (shape, name, count) in tables {
         for call in calls {
@@ -119,6 +131,24 @@ fn check(shape: Shape, name: &str, count: u32, call: &str) {
         replies.iter().all(|reply| *reply == replies[0]),
         "{name} {count} {call}: {replies:?}"
     );
+}
+
+/// On a mixed table words must decide between all rows, and a finish of the head must
+/// give to all others that are not brittle, and pass over those that are.
+fn check_mixed() {
+    let mut tables = tables(&GROWTH);
+    tables.retain(|(shape, _, _)| *shape == Shape::Mixed);
+    for (shape, _, count) in tables {
+        let (_, session) = case(shape, count, "choose");
+        assert_eq!(candidates(&session).len(), count as usize, "{count}");
+        let (_, session) = case(shape, count, "finish head");
+        let shares = shares(&session);
+        let half = count as usize / 2;
+        let gains = shares.iter().filter(|(_, share)| share.is_gain());
+        assert_eq!(gains.count(), half - 1, "{shares:?}");
+        let brittle = shares.iter().filter(|(_, share)| *share == Share::Brittle);
+        assert_eq!(brittle.count(), half, "{shares:?}");
+    }
 }
 
 fn heading(text: &str) {
@@ -198,7 +228,7 @@ fn print_times(title: &str, all: &[Timed]) {
 /// Calls whose figures lie close together.
 type Group = (&'static str, fn(&Timed) -> bool);
 
-const CHECKED: [Group; 6] = [
+const CHECKED: [Group; 8] = [
     ("checked, loose, 1 and 4 rows", |timed| {
         timed.shape == Shape::Loose && timed.rows < 16
     }),
@@ -216,6 +246,12 @@ const CHECKED: [Group; 6] = [
     }),
     ("checked, tight, long, 16 rows", |timed| {
         timed.shape == Shape::Long && timed.rows == 16
+    }),
+    ("checked, mixed, 4 rows", |timed| {
+        timed.shape == Shape::Mixed && timed.rows < 16
+    }),
+    ("checked, mixed, 16 rows", |timed| {
+        timed.shape == Shape::Mixed && timed.rows == 16
     }),
 ];
 

@@ -1,10 +1,10 @@
--- `calls::finish::finish_sound` meets its contract. Assumes nothing.
+-- `calls::finish::finish_by` meets its contract. Assumes nothing.
 use mathlib.Core.Path.{_≡_}
 use lib.ListN.{length}
 use borrow.Author.Needs.{needs}
 use Rattle.calls.specs.Code.{finish-cases, ending-of}
-use Rattle.calls.proofs.finish.finish_sound.Statement.{statement}
-use Rattle.calls.proofs.finish.finish_sound.Tie as tie
+use Rattle.calls.proofs.finish.finish_by.Statement.{statement}
+use Rattle.calls.proofs.finish.finish_by.Tie as tie
 
 refuse-requires : tie.Need-refuse-requires
 refuse-requires c κs = search needs
@@ -24,5 +24,5 @@ finished-requires c κs = let e : length (c .before .before .args .s .words) ≡
 returns-3 : tie.Need-returns-3
 returns-3 c = search (needs, finish-cases)
 
-pub finish-sound-spec : {M : Type 1} → statement M
-finish-sound-spec = tie.close (tie.spec refuse-requires returns refuse-requires-2 returns-2 finished-requires returns-3)
+pub finish-by-spec : {M : Type 1} → statement M
+finish-by-spec = tie.close (tie.spec refuse-requires returns refuse-requires-2 returns-2 finished-requires returns-3)
