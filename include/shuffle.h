@@ -6,6 +6,10 @@
  * calls mean is in docs/SPECIFICATION.md, section 5. The calls are proved to do
  * what is written there, for every content of the record and every argument.
  *
+ * Two calls take a table. shuffle_opinion says what there is to say of it and
+ * needs no record: whether it is admitted, its kind, and V of each row.
+ * shuffle_start makes its fresh session.
+ *
  * The host's loop. Advance by the ticks that passed; finish, if the running job
  * is done and its choice has ticks left; arrive, for each job that came on this
  * tick, or arrive_all for several of them; choose, if no choice is in force; run
@@ -75,13 +79,13 @@ extern "C" {
  */
 enum shuffle_number {
     /*
-     * Accepted. Admit: kind, number of rows. Arrive: row, deadline. Choose: row
-     * or 16 for idle, span. Advance: ticks left, 1 if the job is over (else 0).
-     * Finish: row, unused ticks. Meter: how mixed the schedule is.
+     * Accepted. Opinion and start: kind, number of rows. Arrive: row, deadline.
+     * Choose: row or 16 for idle, span. Advance: ticks left, 1 if the job is over
+     * (else 0). Finish: row, unused ticks. Meter: how mixed the schedule is.
      */
     SHUFFLE_ACCEPTED = 0,
 
-    /* Refusals of a table; the record then has no rows. */
+    /* Refusals of a table, by opinion and start alike; a record stays as it was. */
 
     /* n is 0, above 48 or no multiple of 3. Values: n. */
     SHUFFLE_BAD_LENGTH = 1,
@@ -132,7 +136,7 @@ typedef struct shuffle_job {
  * span is 0. In a record that the library made these are 0.
  */
 typedef struct shuffle_session {
-    uint64_t clock; /* ticks since admission */
+    uint64_t clock; /* ticks since the start */
     uint64_t kind;  /* SHUFFLE_LOOSE, SHUFFLE_TIGHT or SHUFFLE_MIXED */
     uint64_t count; /* the number of rows, 1 to 16 */
     /* Three to a row: C (longest run), T (least time between arrivals), D (from arrival to deadline). */
@@ -158,12 +162,32 @@ typedef struct shuffle_arrival {
     uint64_t second;
 } shuffle_arrival;
 
+/* The opinion on a table: its number, 0 if the table is admitted, two values, and V of each row. */
+typedef struct shuffle_judgement {
+    uint64_t number; /* one of enum shuffle_number, 0 to 4 */
+    uint64_t first;
+    uint64_t second;
+    /*
+     * V of row i in place i: the budget of its jobs as they arrive, which is taken
+     * as 0 if V is negative. 0 past the last row, and all 0 if the table is refused.
+     */
+    int64_t budgets[SHUFFLE_ROWS];
+} shuffle_judgement;
+
 /*
- * Admits a table of n words, three to a row: C, T, D. The record need not hold
- * anything before. Accepted: it becomes the fresh session. Refused (1 to 4): it
- * becomes a record of zeros, which has no rows; every call on it answers 5.
+ * The opinion on a table of n words, three to a row: C, T, D. No session is made,
+ * and nothing is written but the answer. Refusals: 1 to 4.
  */
-shuffle_reply shuffle_admit(shuffle_session *session, const uint32_t *words, size_t n);
+shuffle_judgement shuffle_opinion(const uint32_t *words, size_t n);
+
+/*
+ * Starts a table of n words. Accepted: the record, whatever it held, becomes the
+ * fresh session. Refused, as the opinion on the table is (1 to 4): the record
+ * stays as it was. So a session that was running goes on, and a record that
+ * nothing was written to yet is still no session: fill it with zeros first, and
+ * every call on it answers 5 until a start is accepted.
+ */
+shuffle_reply shuffle_start(shuffle_session *session, const uint32_t *words, size_t n);
 
 /* A job of the row arrives now. A choice in force is dropped. Refusals: 5, 6, 7. */
 shuffle_reply shuffle_arrive(shuffle_session *session, uint64_t row);
@@ -210,12 +234,6 @@ shuffle_reply shuffle_finish(shuffle_session *session);
 
 /* 1 if the record is sound, else 0. */
 uint32_t shuffle_is_sound(const shuffle_session *session);
-
-/*
- * V of a row of a table of n words: the budget of its jobs as they arrive, which
- * is taken as 0 if V is negative. 0 if the table is refused or has no such row.
- */
-int64_t shuffle_budget(const uint32_t *words, size_t n, uint64_t row);
 
 /*
  * How mixed a schedule is: the schedule entropy, in eighths of a bit, rounded
@@ -269,6 +287,11 @@ SHUFFLE_CHECK(offsetof(shuffle_arrival, row) == 0);
 SHUFFLE_CHECK(offsetof(shuffle_arrival, number) == 8);
 SHUFFLE_CHECK(offsetof(shuffle_arrival, first) == 16);
 SHUFFLE_CHECK(offsetof(shuffle_arrival, second) == 24);
+SHUFFLE_CHECK(sizeof(shuffle_judgement) == 152);
+SHUFFLE_CHECK(offsetof(shuffle_judgement, number) == 0);
+SHUFFLE_CHECK(offsetof(shuffle_judgement, first) == 8);
+SHUFFLE_CHECK(offsetof(shuffle_judgement, second) == 16);
+SHUFFLE_CHECK(offsetof(shuffle_judgement, budgets) == 24);
 SHUFFLE_CHECK(sizeof(size_t) == 8);
 #undef SHUFFLE_CHECK
 

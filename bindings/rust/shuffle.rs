@@ -30,18 +30,19 @@ pub const MIXED: u64 = 3;
 /// The numbers of an answer; a value that is not named is 0. If several refusals hold, the lowest
 /// number is given.
 pub mod number {
-    /// Accepted. Admit: kind, number of rows. Arrive: row, deadline. Choose: row or 16 for idle,
-    /// span. Advance: ticks left, 1 if the job is over. Finish: row, unused ticks. Meter: how mixed
-    /// the schedule is.
+    /// Accepted. Opinion and start: kind, number of rows. Arrive: row, deadline. Choose: row or 16
+    /// for idle, span. Advance: ticks left, 1 if the job is over. Finish: row, unused ticks. Meter:
+    /// how mixed the schedule is.
     pub const ACCEPTED: u64 = 0;
-    /// Admit: the length is 0, above 48 or no multiple of 3. Values: length.
+    /// Opinion and start: the length is 0, above 48 or no multiple of 3. Values: length.
     pub const BAD_LENGTH: u64 = 1;
-    /// Admit: a row breaks 1 ≤ C ≤ D ≤ T ≤ 1,000,000. Values: the first such row.
+    /// Opinion and start: a row breaks 1 ≤ C ≤ D ≤ T ≤ 1,000,000. Values: the first such row.
     pub const BAD_ROW: u64 = 2;
-    /// Admit: the demand exceeds the time. Values: the first overload, which is the least t with demand above t, and the
-    /// demand at t. It is the first deadline that can be missed when all rows start together.
+    /// Opinion and start: the demand exceeds the time. Values: the first overload, which is the least
+    /// t with demand above t, and the demand at t. It is the first deadline that can be missed when
+    /// all rows start together.
     pub const OVERLOAD: u64 = 3;
-    /// Admit: no overload found, but no busy length up to the horizon. Values: 1,000,000.
+    /// Opinion and start: no overload found, but no busy length up to the horizon. Values: 1,000,000.
     pub const UNSETTLED: u64 = 4;
     /// Any call on a session: it is not sound.
     pub const UNSOUND: u64 = 5;
@@ -86,7 +87,7 @@ pub struct Job {
 #[repr(C)]
 #[derive(Clone, Copy, Debug, PartialEq, Eq)]
 pub struct Session {
-    /// Ticks since admission.
+    /// Ticks since the start.
     pub clock: u64,
     /// `LOOSE`, `TIGHT` or `MIXED`.
     pub kind: u64,
@@ -131,6 +132,21 @@ pub struct Arrival {
     pub second: u64,
 }
 
+/// The opinion on a table: its number and two values (see `number`), and V of each row.
+#[repr(C)]
+#[derive(Clone, Copy, Debug, PartialEq, Eq)]
+pub struct Judgement {
+    /// 0 if the table is admitted, else the refusal, from 1 to 4.
+    pub number: u64,
+    /// The first value.
+    pub first: u64,
+    /// The second value.
+    pub second: u64,
+    /// V of row i in place i: the budget of its jobs as they arrive, which is taken as 0 if V is
+    /// negative. 0 past the last row, and in every place if the table is refused.
+    pub budgets: [i64; ROWS],
+}
+
 // The library reads and writes these places. No byte of a record is padding.
 const _: () = {
     assert!(size_of::<Job>() == 32);
@@ -156,20 +172,25 @@ const _: () = {
     assert!(offset_of!(Arrival, number) == 8);
     assert!(offset_of!(Arrival, first) == 16);
     assert!(offset_of!(Arrival, second) == 24);
+    assert!(size_of::<Judgement>() == 152);
+    assert!(offset_of!(Judgement, number) == 0);
+    assert!(offset_of!(Judgement, first) == 8);
+    assert!(offset_of!(Judgement, second) == 16);
+    assert!(offset_of!(Judgement, budgets) == 24);
     assert!(size_of::<usize>() == 8);
 };
 
 // SAFETY: these are the library's signatures. A function that takes no raw pointer is safe: a
 // reference is never null, is aligned, and is not shared while it may be changed.
 unsafe extern "C" {
-    fn shuffle_admit(session: &mut Session, words: *const u32, n: usize) -> Reply;
+    fn shuffle_opinion(words: *const u32, n: usize) -> Judgement;
+    fn shuffle_start(session: &mut Session, words: *const u32, n: usize) -> Reply;
     safe fn shuffle_arrive(session: &mut Session, row: u64) -> Reply;
     fn shuffle_arrive_all(session: &mut Session, list: *mut Arrival, n: usize);
     fn shuffle_choose(session: &mut Session, words: *const u32, n: usize) -> Reply;
     safe fn shuffle_advance(session: &mut Session, n: u64) -> Reply;
     safe fn shuffle_finish(session: &mut Session) -> Reply;
     safe fn shuffle_is_sound(session: &Session) -> u32;
-    fn shuffle_budget(words: *const u32, n: usize, row: u64) -> i64;
     fn shuffle_meter(
         rows: *const u8,
         n: usize,
@@ -183,6 +204,13 @@ unsafe extern "C" {
 impl Reply {
     /// Whether the call was accepted.
     pub fn is_accepted(&self) -> bool {
+        self.number == number::ACCEPTED
+    }
+}
+
+impl Judgement {
+    /// Whether the table is admitted, so that a start of it is accepted.
+    pub fn is_admitted(&self) -> bool {
         self.number == number::ACCEPTED
     }
 }
@@ -221,19 +249,20 @@ impl Session {
         span: 0,
     };
 
-    /// Admits a table, three words to a row: C, T, D. Gives the fresh session, or `NONE` with a
-    /// refusal from 1 to 4.
-    pub fn admit(words: &[u32]) -> (Reply, Session) {
+    /// Starts a table, three words to a row: C, T, D. Gives its fresh session, or `NONE` with the
+    /// refusal of its opinion, from 1 to 4.
+    pub fn start(words: &[u32]) -> (Reply, Session) {
         let mut session = Session::NONE;
-        let reply = session.replace(words);
+        let reply = session.restart(words);
         (reply, session)
     }
 
-    /// Admits a table in place of whatever this session held.
-    pub fn replace(&mut self, words: &[u32]) -> Reply {
+    /// Starts a table in place of whatever this session held. If it is refused, this session stays
+    /// as it was, and goes on if it was sound.
+    pub fn restart(&mut self, words: &[u32]) -> Reply {
         // SAFETY: pointer and length of one slice, never null, also for an empty one; the slice
         // cannot overlap the record, which is borrowed for change.
-        unsafe { shuffle_admit(self, words.as_ptr(), words.len()) }
+        unsafe { shuffle_start(self, words.as_ptr(), words.len()) }
     }
 
     /// A job of the row arrives now; a choice in force is dropped. Refusals: 5, 6, 7.
@@ -245,7 +274,7 @@ impl Session {
     /// record gets its answer, whatever its place held. A refused record does not stop those after
     /// it. Refusals, in the records: 5, 6, 7.
     pub fn arrive_all(&mut self, list: &mut [Arrival]) {
-        // SAFETY: as for `replace`; the slice is borrowed for change, so nothing else reads it.
+        // SAFETY: as for `restart`; the slice is borrowed for change, so nothing else reads it.
         unsafe { shuffle_arrive_all(self, list.as_mut_ptr(), list.len()) }
     }
 
@@ -259,7 +288,7 @@ impl Session {
     /// next job of some brittle row can be, nor is idle while a job waits. If no job waits: idle, for
     /// 1,000,000 ticks. Refusals: 5, 8.
     pub fn choose(&mut self, words: &[u32]) -> Reply {
-        // SAFETY: as for `replace`.
+        // SAFETY: as for `restart`.
         unsafe { shuffle_choose(self, words.as_ptr(), words.len()) }
     }
 
@@ -284,11 +313,10 @@ impl Session {
     }
 }
 
-/// V of a row of a table: the budget of its jobs as they arrive, which is taken as 0 if V is
-/// negative. 0 if the table is refused or has no such row.
-pub fn budget(words: &[u32], row: u64) -> i64 {
+/// The opinion on a table, three words to a row: C, T, D. No session is made.
+pub fn opinion(words: &[u32]) -> Judgement {
     // SAFETY: pointer and length of one slice, never null, also for an empty one.
-    unsafe { shuffle_budget(words.as_ptr(), words.len(), row) }
+    unsafe { shuffle_opinion(words.as_ptr(), words.len()) }
 }
 
 /// How mixed a schedule is: the schedule entropy, in eighths of a bit, rounded. The rows are
@@ -302,7 +330,7 @@ pub fn budget(words: &[u32], row: u64) -> i64 {
 /// Refusal: 14, unless 1 ≤ stretches ≤ 255, 1 ≤ window ≤ ticks and the number of rows is
 /// stretches × ticks, 16,384 at most. Every threshold is accepted.
 pub fn meter(rows: &[u8], stretches: usize, ticks: usize, window: usize, threshold: u64) -> Reply {
-    // SAFETY: as for `budget`.
+    // SAFETY: as for `opinion`.
     unsafe {
         shuffle_meter(
             rows.as_ptr(),

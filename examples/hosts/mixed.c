@@ -53,12 +53,11 @@ static uint64_t divisor(uint64_t a, uint64_t b)
 static int read_table(struct table *t, int count, char **arguments)
 {
     const int given = count > 0;
-    shuffle_session session;
     t->n = given ? (size_t)count : sizeof plant / sizeof plant[0];
     for (size_t i = 0; i < t->n && i < SHUFFLE_WORDS; i += 1) {
         t->words[i] = given ? (uint32_t)strtoul(arguments[i], NULL, 10) : plant[i];
     }
-    if (t->n > SHUFFLE_WORDS || shuffle_admit(&session, t->words, t->n).number != SHUFFLE_ACCEPTED) {
+    if (t->n > SHUFFLE_WORDS || shuffle_opinion(t->words, t->n).number != SHUFFLE_ACCEPTED) {
         fputs("the table is refused\n", stderr);
         return 0;
     }
@@ -101,9 +100,9 @@ static int arrive(shuffle_session *session, const struct table *t, uint64_t cloc
 /* Runs all stretches tick by tick, with four random words to a choice or none, and notes the row of each tick. */
 static int run(const struct table *t, size_t words_given, uint8_t *rows)
 {
-    shuffle_session session;
+    shuffle_session session = {0};
     uint64_t random = 2026;
-    shuffle_admit(&session, t->words, t->n);
+    shuffle_start(&session, t->words, t->n);
     for (uint64_t clock = 0; clock < t->stretches * t->ticks; clock += 1) {
         if (!arrive(&session, t, clock)) {
             return 0;

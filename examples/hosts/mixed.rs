@@ -16,7 +16,7 @@ mod shuffle;
 
 use std::process::exit;
 
-use shuffle::{meter, Arrival, Session, METER_STRETCHES, METER_TICKS, ROWS};
+use shuffle::{meter, opinion, Arrival, Session, METER_STRETCHES, METER_TICKS, ROWS};
 
 /// C, T, D of each row: the table of plant.rs.
 const PLANT: [u32; 12] = [2, 20, 20, 3, 30, 25, 8, 60, 50, 5, 100, 100];
@@ -48,7 +48,7 @@ fn divisor(a: usize, b: usize) -> usize {
 
 /// The table of these words; the other way: why there is none.
 fn read_table(words: Vec<u32>) -> Result<Table, &'static str> {
-    if !Session::admit(&words).0.is_accepted() {
+    if !opinion(&words).is_admitted() {
         return Err("the table is refused");
     }
     let mut ticks = 1;
@@ -85,7 +85,7 @@ fn arrive(session: &mut Session, table: &Table, clock: usize) -> bool {
 /// Runs all stretches tick by tick, with four random words to a choice or none: the row of each
 /// tick, or nothing if a call was refused.
 fn run(table: &Table, words_given: usize) -> Option<Vec<u8>> {
-    let (_, mut session) = Session::admit(&table.words);
+    let (_, mut session) = Session::start(&table.words);
     let mut random = 2026;
     let mut rows = Vec::new();
     for clock in 0..table.stretches * table.ticks {

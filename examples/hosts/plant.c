@@ -25,6 +25,9 @@ static const uint32_t table[3 * TASKS] = {
     5, 100, 100, /* radio */
 };
 
+/* The plant with a slower radio, which is overloaded. */
+static const uint32_t slower[3 * TASKS] = {2, 20, 20, 3, 30, 25, 8, 60, 50, 70, 100, 100};
+
 static const char *const names[TASKS + 1] = {"valve", "motor", "camera", "radio", "idle"};
 
 /* What the host itself knows of a task; it trusts the library for none of it. */
@@ -109,6 +112,12 @@ static void arrived(struct plant *p, uint64_t row)
     }
 }
 
+/* At a shift change the slower radio is tried. Its table is refused, and the session goes on as it was. */
+static void change_shift(struct plant *p)
+{
+    count(p, shuffle_start(&p->session, slower, 3 * TASKS), SHUFFLE_OVERLOAD);
+}
+
 /*
  * All arrivals of this tick in one call, at a shift change those of all tasks. One that is reported a second time is too
  * early, and refused; the others of the list are handled all the same.
@@ -125,6 +134,9 @@ static void arrivals(struct plant *p)
     }
     if (n == 0) {
         return;
+    }
+    if (n == TASKS) {
+        change_shift(p);
     }
     shuffle_arrive_all(&p->session, list, n);
     p->calls += 1;
@@ -282,7 +294,7 @@ static void start(struct plant *p)
             p->strip[row][tick] = ' ';
         }
     }
-    count(p, shuffle_admit(&p->session, table, 3 * TASKS), SHUFFLE_ACCEPTED);
+    count(p, shuffle_start(&p->session, table, 3 * TASKS), SHUFFLE_ACCEPTED);
 }
 
 int main(int argc, char **argv)

@@ -25,6 +25,9 @@ const STRIP_LINE: usize = 100;
 /// C, T, D of each row.
 const TABLE: [[u32; 3]; TASKS] = [[2, 20, 20], [3, 30, 25], [8, 60, 50], [5, 100, 100]];
 
+/// The plant with a slower radio, which is overloaded.
+const SLOWER: [[u32; 3]; TASKS] = [[2, 20, 20], [3, 30, 25], [8, 60, 50], [70, 100, 100]];
+
 const NAMES: [&str; TASKS + 1] = ["valve", "motor", "camera", "radio", "idle"];
 
 /// What the host itself knows of a task; it trusts the library for none of it.
@@ -62,7 +65,7 @@ struct Plant {
 
 impl Plant {
     fn start() -> Self {
-        let (reply, session) = Session::admit(TABLE.as_flattened());
+        let (reply, session) = Session::start(TABLE.as_flattened());
         let mut plant = Plant {
             session,
             tasks: [Task::default(); TASKS],
@@ -136,6 +139,13 @@ impl Plant {
         }
     }
 
+    /// At a shift change the slower radio is tried. Its table is refused, and the session goes on as
+    /// it was.
+    fn change_shift(&mut self) {
+        let reply = self.session.restart(SLOWER.as_flattened());
+        self.count(reply, number::OVERLOAD);
+    }
+
     /// All arrivals of this tick in one call, at a shift change those of all tasks. One that is
     /// reported a second time is too early, and refused; the others of the list are handled all the
     /// same.
@@ -148,6 +158,9 @@ impl Plant {
             .collect();
         if list.is_empty() {
             return;
+        }
+        if list.len() == TASKS {
+            self.change_shift();
         }
         self.session.arrive_all(&mut list);
         self.calls += 1;

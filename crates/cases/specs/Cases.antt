@@ -18,7 +18,7 @@ use Rattle.edf.specs.Demand.{demand, request, interference}
 use Rattle.table.specs.Rows.{tasksOf, rowRule, broken, firstBroken}
 use Rattle.table.specs.Budgets.{budgetOf, brittle, looseTo, loose, firmTo, firm, valuesTo, valuesOf}
 use Rattle.table.specs.Busy.{busyLength}
-use Rattle.table.specs.Verdict.{admitted, badLength, firstOverload, overloaded, heavyKind, opinionOf, answerOf}
+use Rattle.table.specs.Verdict.{admitted, badLength, firstOverload, overloaded, heavyKind, judgedOf, opinionOf}
 use Rattle.session.specs.declared.Job.{Job}
 use Rattle.session.specs.declared.Session.{Session}
 use Rattle.session.specs.Reading.{clockEnd, noJob, rowsOf, waits, ahead, startBudget, mostBudget}
@@ -26,10 +26,10 @@ use Rattle.session.specs.Sound.{soundRows, soundWaiting, soundJob, runs, afford
 use Rattle.session.specs.Order.{arrivalOf, cameBefore, before, isHead, headOf, permits, brittleDue, near, candidate, idles, candidates, position, rowWith, candidateAt}
 use Rattle.session.specs.Choose.{drawLimit, passedOver, draw, drawUsed, contested, drawn, pickOf, room, unopposed, lengthDrawn, spanOf, pickUsed, usedOf}
 use Rattle.session.specs.Calls.{Shown, shown, three, arriveIn, chooseIn, jobsWith, agedJob, overBy, overAfter, advanceIn, gains, givenJob, finishIn, arriveOf, chooseOf, advanceOf, finishOf}
-use Rattle.session.specs.Admit.{wordsTo, freshOf, sessionOf}
+use Rattle.session.specs.Start.{wordsTo, freshOf, startOf, sessionOf}
 use Rattle.guarantee.specs.Ledger.{Call, arrive, choose, advance, finish}
 use Rattle.guarantee.specs.Statement.{outcomeOf}
-use Rattle.table.specs.Compute.{quietTo, busy-is, not-overloaded, first-over, answer-over, answer-heavy}
+use Rattle.table.specs.Compute.{quietTo, busy-is, not-overloaded, first-over, opinion-over, opinion-heavy}
 
 -- what is asked of the definitions
 pub data Question : Type 0 where
@@ -38,7 +38,7 @@ pub data Question : Type 0 where
   -- V of each row
   budgets : List ℕ → Question
   busy : List ℕ → Question
-  -- the session that admission gives
+  -- the session that a start gives
   opened : List ℕ → Question
   -- whether a session is sound
   soundness : Session → Question
@@ -72,7 +72,7 @@ candidatesTo s (suc n) = candidatesFrom s n (idles s ∷ [])
     candidatesFrom s (suc n) l = candidatesFrom s n (candidate s (suc n) ∷ l)
 
 abbrev pub reply : Question → Reply
-reply (verdict l) = answer (answerOf l .number) (answerOf l .first) (answerOf l .second)
+reply (verdict l) = answer (opinionOf l .number) (opinionOf l .first) (opinionOf l .second)
 reply (budgets l) = values (take (tasksOf l .rows) (valuesOf (tasksOf l)))
 reply (busy l) = ticks (busyLength (tasksOf l))
 reply (opened l) = fresh (sessionOf l)
@@ -384,16 +384,16 @@ over-first = first-over (tasksOf over) 5 refl (omega arith) (omega arith)
 
 over-verdict : reply (verdict over) ≡ answer 3 6 7
 unfolding badLength firstBroken broken rowRule tasksOf loose looseTo brittle allTo budgetOf interference demand request sumTo gate jobsBy ceilDiv leastFrom
-over-verdict = rw (answer-over over refl refl refl 6 over-first)
+over-verdict = rw (opinion-over over refl refl refl 6 over-first)
 
 heavy-busy : busyLength (tasksOf heavy) ≡ 9
 unfolding tasksOf quietTo allTo demand request sumTo gate jobsBy ceilDiv
 heavy-busy = busy-is (tasksOf heavy) 8 refl (omega arith) refl
 
-heavy-answer : answerOf heavy ≡ admitted 3 (tasksOf heavy)
+heavy-opinion : opinionOf heavy ≡ admitted 3 (tasksOf heavy)
 unfolding badLength firstBroken broken rowRule tasksOf loose looseTo brittle heavyKind firm firmTo allTo budgetOf interference quietTo demand request sumTo gate jobsBy ceilDiv leastFrom
-heavy-answer =
-    rw (answer-heavy heavy refl refl refl (not-overloaded (tasksOf heavy) 8 refl (omega arith) refl (omega arith)) (omega (arith, heavy-busy)))
+heavy-opinion =
+    rw (opinion-heavy heavy refl refl refl (not-overloaded (tasksOf heavy) 8 refl (omega arith) refl (omega arith)) (omega (arith, heavy-busy)))
 
 long-busy : busyLength (tasksOf long) ≡ 80
 unfolding tasksOf quietTo allTo demand request sumTo gate jobsBy ceilDiv
@@ -402,20 +402,20 @@ long-busy = busy-is (tasksOf long) 79 refl (omega arith) refl
 long-verdict : reply (verdict long) ≡ answer 0 2 4
 unfolding badLength firstBroken broken rowRule tasksOf loose looseTo brittle heavyKind firm firmTo allTo budgetOf interference quietTo demand request sumTo gate jobsBy ceilDiv leastFrom
 long-verdict =
-    rw (answer-heavy long refl refl refl (not-overloaded (tasksOf long) 79 refl (omega arith) refl (omega arith)) (omega (arith, long-busy)))
+    rw (opinion-heavy long refl refl refl (not-overloaded (tasksOf long) 79 refl (omega arith) refl (omega arith)) (omega (arith, long-busy)))
 
 -- ---- the sessions of the mixed table
 
--- the session that a table's answer leads to
-opened-by : (l : List ℕ) (k : ℕ) → answerOf l ≡ admitted k (tasksOf l) → sessionOf l ≡ freshOf l k
-unfolding sessionOf
+-- the session that a start of an admitted table gives
+opened-by : (l : List ℕ) (k : ℕ) → opinionOf l ≡ admitted k (tasksOf l) → sessionOf l ≡ freshOf l k
+unfolding startOf
 opened-by l k e = simp e
 
 -- such a session is sound exactly if its clock, jobs and choice are
 mixed-sound : (s : Session) → rowsOf s ≡ heavy → s .kind ≡ 3 → s .count ≡ 4
     → sound s ≡ (leb (s .clock) clockEnd && (allTo (soundJob s) (s .count) && soundChoice s))
 unfolding sound soundRows
-mixed-sound s e k n = simp (e, heavy-answer, k, n)
+mixed-sound s e k n = simp (e, heavy-opinion, k, n)
 
 -- and then a call gives what its core does
 arrives : (s : Session) (k : ℕ) → sound s ≡ true → arriveOf s k ≡ arriveIn s k
@@ -514,13 +514,13 @@ mixed-moments =
     )
 
 pub every-case : All cases
-unfolding cases answerOf opinionOf badLength firstBroken broken rowRule tasksOf loose looseTo allTo budgetOf valuesOf valuesTo foldTo interference demand request sumTo gate jobsBy ceilDiv leastFrom rowsOf waits ahead brittle startBudget mostBudget soundRows soundWaiting soundJob runs affords soundChoice sound arrivalOf cameBefore before isHead headOf permits brittleDue near candidate idles candidates position rowWith candidateAt drawLimit passedOver draw drawUsed contested drawn pickOf room unopposed lengthDrawn spanOf pickUsed usedOf arriveIn chooseIn jobsWith agedJob overBy overAfter advanceIn gains givenJob finishIn arriveOf chooseOf advanceOf finishOf wordsTo freshOf sessionOf
+unfolding cases opinionOf judgedOf badLength firstBroken broken rowRule tasksOf loose looseTo allTo budgetOf valuesOf valuesTo foldTo interference demand request sumTo gate jobsBy ceilDiv leastFrom rowsOf waits ahead brittle startBudget mostBudget soundRows soundWaiting soundJob runs affords soundChoice sound arrivalOf cameBefore before isHead headOf permits brittleDue near candidate idles candidates position rowWith candidateAt drawLimit passedOver draw drawUsed contested drawn pickOf room unopposed lengthDrawn spanOf pickUsed usedOf arriveIn chooseIn jobsWith agedJob overBy overAfter advanceIn gains givenJob finishIn arriveOf chooseOf advanceOf finishOf wordsTo freshOf startOf
 every-case =
-    (refl, (refl, (rw heavy-answer, (refl, (rw heavy-busy, (long-verdict, (rw long-busy, (refl, (refl, (over-verdict, (refl, (refl, equals))))))))))))
+    (refl, (refl, (rw heavy-opinion, (refl, (rw heavy-busy, (long-verdict, (rw long-busy, (refl, (refl, (over-verdict, (refl, (refl, equals))))))))))))
   where
     -- words that are passed over
     passed : All (drop 51 cases)
-    passed = (refl, (refl, (refl, (refl, (refl, (rw (opened-by heavy 3 heavy-answer), mixed-moments))))))
+    passed = (refl, (refl, (refl, (refl, (refl, (rw (opened-by heavy 3 heavy-opinion), mixed-moments))))))
 
     -- the listing
     listed : All (drop 40 cases)

@@ -1,4 +1,4 @@
--- A table of rows, the work that its jobs ask for, and the facts by which admission judges it. Assumes nothing.
+-- A table of rows, the work that its jobs ask for, and the facts by which it is judged. Assumes nothing.
 use Prim.Native.Nat.{ℕ, zero, suc, _+_, _-_, _*_, _≤_, _<_}
 use mathlib.Core.Path.{_≡_, refl, sym, ap}
 use mathlib.Core.Bool.{not}

@@ -37,7 +37,7 @@ follows-arrived τ i j l some (latest {e = e} q (waiting b u p a c) r) = record 
 
 pub arrivals-told : ArrivalsTold
 unfolding arrivalOf waits
-arrivals-told l e calls i h w =
-    let s = sessionFrom l calls in
-    rw (good-reached l e calls .rows)
-    (follows-arrived (tasksOf l) i (jobAt s i) _ (ltb-true 0 (jobAt s i .left) w) (tied-reached l e calls .rows i))
+arrivals-told l e s₀ calls i h w =
+    let s = sessionFrom s₀ l calls in
+    rw (good-reached l e s₀ calls .rows)
+    (follows-arrived (tasksOf l) i (jobAt s i) _ (ltb-true 0 (jobAt s i .left) w) (tied-reached l e s₀ calls .rows i))

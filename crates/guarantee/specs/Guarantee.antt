@@ -1,19 +1,20 @@
 -- The guarantee (docs/SPECIFICATION.md §6.2): the theorems of Statement.antt but those in Keeps.antt, Arrived.antt and
 -- Tight.antt. Assumes nothing.
 use Prim.Native.Nat.{ℕ}
-use mathlib.Core.Path.{_≡_, refl, ap}
+use mathlib.Core.Path.{_≡_, refl, sym, ap, _∙_}
 use mathlib.Core.List.{List, [], _∷_, _++_, map}
 use Rattle.edf.specs.Demand.{TaskSet}
 use Rattle.table.specs.Rows.{tasksOf}
-use Rattle.table.specs.Verdict.{answerOf}
+use Rattle.table.specs.Verdict.{Opinion, opinionOf}
+use Rattle.table.specs.Opinion.{says-of, says-one}
 use Rattle.table.specs.Theorems as tables
 use Rattle.session.specs.declared.Session.{Session}
 use Rattle.session.specs.declared.Arrival.{Arrival}
 use Rattle.session.specs.Calls.{shown, arriveOf}
 use Rattle.session.specs.Batch.{afterAll, answeredAll}
-use Rattle.session.specs.Admit.{sessionOf}
+use Rattle.session.specs.Start.{freshOf, startOf, start-fresh, start-same}
 use Rattle.guarantee.specs.Ledger.{arrive, Event, Ledger, empty, kept, ledgerFrom, ledgerOf}
-use Rattle.guarantee.specs.Statement.{HostCall, single, batch, sessionBy, recordEvent, eventsBy, sessionAfter, sessionFrom, eventsOf, NoJobLate, OneByOne, OverloadDeserved, Deterministic, DeterministicAfter}
+use Rattle.guarantee.specs.Statement.{HostCall, single, batch, sessionBy, recordEvent, eventsBy, sessionAfter, sessionFrom, eventsOf, StartIsOpinion, NoJobLate, OneByOne, OverloadDeserved, Deterministic, DeterministicAfter}
 use Rattle.guarantee.specs.Good.{Good}
 use Rattle.guarantee.specs.KeepsFresh.{good-fresh}
 use Rattle.guarantee.specs.Keeps.{good-call, good-by, good-reached}
@@ -48,13 +49,21 @@ tied-after l g s good tied (c ∷ calls) =
     rw (ledger-more (tasksOf l) g (eventsBy s c) (eventsOf (sessionBy s c) calls))
     (tied-after l _ (sessionBy s c) (good-by l s good c) (tied-by l g s good tied c) calls)
 
-pub tied-reached : (l : List ℕ) → answerOf l .number ≡ 0 → (calls : List HostCall)
-    → Tied l (ledgerOf (tasksOf l) (eventsOf (sessionOf l) calls)) (sessionFrom l calls)
-tied-reached l e calls = tied-after l empty (sessionOf l) (good-fresh l e) (tied-fresh l e) calls
+pub tied-reached : (l : List ℕ) → opinionOf l .number ≡ 0 → (s₀ : Session) (calls : List HostCall)
+    → Tied l (ledgerOf (tasksOf l) (eventsOf (startOf s₀ l) calls)) (sessionFrom s₀ l calls)
+tied-reached l e s₀ calls = tied-after l empty (startOf s₀ l) (good-fresh l e s₀) (tied-fresh l e s₀) calls
+
+-- A START SAYS WHAT THE OPINION SAYS
+pub start-is-opinion : StartIsOpinion
+start-is-opinion s₀ l j r e h = record {
+  verdict = says-one (r .verdict) (j .verdict) (opinionOf l) (h .verdict) (says-of j (opinionOf l) e);
+  fresh = λ z. h .session ∙ start-fresh s₀ l (sym (ap (λ (o : Opinion). o .number) e) ∙ z) ∙ ap (λ (o : Opinion). freshOf l (o .first)) (sym e);
+  same = λ ne. h .session ∙ start-same s₀ l (λ z. ne (ap (λ (o : Opinion). o .number) e ∙ z));
+}
 
 -- NO JOB IS LATE
 pub no-job-late : NoJobLate
-no-job-late l e calls = tied-timely l _ _ (good-reached l e calls) (tied-reached l e calls)
+no-job-late l e s₀ calls = tied-timely l _ _ (good-reached l e s₀ calls) (tied-reached l e s₀ calls)
 
 -- ONE BY ONE
 pub one-by-one : OneByOne

@@ -5,8 +5,7 @@ use mathlib.Core.Path.{_≡_, refl, sym, ap, subst}
 use mathlib.Core.Bool.{true, false}
 use mathlib.Core.List.{List, [], _∷_, map}
 use native.Mathlib.Omega.{arith}
-use borrow.Author.Tests.{ne-eqb}
-use Rattle.table.specs.Verdict.{badLength, answerOf}
+use Rattle.table.specs.Verdict.{badLength, opinionOf}
 use Rattle.session.specs.declared.Session.{Session}
 use Rattle.session.specs.declared.Answer.{Answer}
 use Rattle.session.specs.declared.Arrival.{Arrival}
@@ -14,7 +13,7 @@ use Rattle.session.specs.Reading.{rowsOf}
 use Rattle.session.specs.Sound.{soundRows, sound}
 use Rattle.session.specs.Calls.{shown, three, gains, arriveOf}
 use Rattle.session.specs.Batch.{answered, afterAll, answeredAll}
-use Rattle.session.specs.Admit.{noSession, sessionOf}
+use Rattle.session.specs.Start.{noSession, startOf, start-same}
 use Rattle.guarantee.specs.Ledger.{Call, arrive, finish}
 use Rattle.guarantee.specs.Statement.{outcomeOf, HostCall, single, batch, sessionBy, recordEvent, eventsBy, sessionAfter, sessionFrom, AlwaysSound, NoFive, NeverFive, UnsoundFive, AlwaysFive, GainsAll, CapCutsNothing}
 use Rattle.guarantee.specs.Good.{Good}
@@ -53,11 +52,11 @@ good-after l s g [] = g
 good-after l s g (c ∷ calls) = good-after l (sessionBy s c) (good-by l s g c) calls
 
 -- the session reached from a fresh one
-pub good-reached : (l : List ℕ) → answerOf l .number ≡ 0 → (calls : List HostCall) → Good l (sessionFrom l calls)
-good-reached l e calls = good-after l (sessionOf l) (good-fresh l e) calls
+pub good-reached : (l : List ℕ) → opinionOf l .number ≡ 0 → (s₀ : Session) (calls : List HostCall) → Good l (sessionFrom s₀ l calls)
+good-reached l e s₀ calls = good-after l (startOf s₀ l) (good-fresh l e s₀) calls
 
 pub always-sound : AlwaysSound
-always-sound l e calls = good-reached l e calls .sound
+always-sound l e s₀ calls = good-reached l e s₀ calls .sound
 
 -- a sound session's refusals begin at 6
 pub not-five : {s s′ : Session} {c : Call} {a : Answer} → Effect s c s′ a → shown a .number ≡ 5 → ⊥
@@ -79,14 +78,14 @@ no-five l s g (single c) = (not-five (effect-of s (g .sound) c), tt)
 no-five l s g (batch rs) = none-five l s g rs
 
 pub never-five : NeverFive
-never-five l e calls c = no-five l (sessionFrom l calls) (good-reached l e calls) c
+never-five l e s₀ calls c = no-five l (sessionFrom s₀ l calls) (good-reached l e s₀ calls) c
 
 -- a finish that is accepted is not cut
 pub cap-cuts-nothing : CapCutsNothing
-cap-cuts-nothing l e calls z i h w =
-    let g = good-reached l e calls in
-    by (subst (λ (x : List ℕ). Good x (sessionFrom l calls)) (sym (g .rows)) g)
-    (effect-of (sessionFrom l calls) (g .sound) finish) z (omega (arith, g .count)) w
+cap-cuts-nothing l e s₀ calls z i h w =
+    let g = good-reached l e s₀ calls in
+    by (subst (λ (x : List ℕ). Good x (sessionFrom s₀ l calls)) (sym (g .rows)) g)
+    (effect-of (sessionFrom s₀ l calls) (g .sound) finish) z (omega (arith, g .count)) w
   where
     by : {s s′ : Session} {a : Answer} → Good (rowsOf s) s → Effect s finish s′ a → shown a .number ≡ 0 → i < s .count → gains s i ≡ true
         → GainsAll s s′ a i
@@ -97,7 +96,7 @@ cap-cuts-nothing l e calls z i h w =
 
 -- a record without rows is of no table
 none-unsound : sound noSession ≡ false
-unfolding sound soundRows rowsOf answerOf badLength
+unfolding sound soundRows rowsOf opinionOf badLength
 none-unsound = refl
 
 pub unsound-five : UnsoundFive
@@ -109,7 +108,6 @@ unsound-five s e (a ∷ l) =
     record { records = rw o (ap (λ (z : List Arrival). answered a (three 5 0 0) ∷ z) (r .records)); session = rw o (r .session) }
 
 pub always-five : AlwaysFive
-unfolding sessionOf
 always-five l ne =
-    simp (ne-eqb (answerOf l .number) 0 ne)
+    rw (start-same noSession l ne)
     (record { one = λ c. rw (unsound-refused noSession c none-unsound) (refl, refl, refl); all = unsound-five noSession none-unsound })

@@ -8,22 +8,21 @@ use native.Mathlib.Omega.{arith}
 use lib.Dec.{ltb}
 use lib.ListN.{length, getD, take, replicate, length-take, length-replicate}
 use lib.Seq.{getD-take, ext-getD}
-use borrow.Author.Tests.{eq-eqb}
 use Rattle.bounded.specs.Fold.{put-length, put-at}
 use Rattle.edf.specs.Steps.{Start}
 use Rattle.edf.specs.Safe.{safe-start}
 use Rattle.table.specs.Rows.{tasksOf, Fit, fit-lawful}
 use Rattle.table.specs.Budgets.{brittle}
-use Rattle.table.specs.Verdict.{Answer, badLength, answerOf}
-use Rattle.table.specs.Assess.{good-length}
-use Rattle.table.specs.Theorems.{answer-fit, admitted-fits}
+use Rattle.table.specs.Verdict.{Opinion, badLength, opinionOf}
+use Rattle.table.specs.Opinion.{good-length}
+use Rattle.table.specs.Theorems.{opinion-fit, admitted-fits}
 use Rattle.session.specs.declared.Job.{Job}
 use Rattle.session.specs.declared.Session.{Session}
 use Rattle.session.specs.Reading.{noJob, jobAt, rowsOf, waits, stateOf}
-use Rattle.session.specs.Admit.{wordsTo, freshOf, sessionOf}
+use Rattle.session.specs.Start.{wordsTo, freshOf, startOf, start-fresh}
 use Rattle.session.specs.Facts.{Facts, sound-of}
 use Rattle.guarantee.specs.Good.{Good}
-use Rattle.guarantee.specs.KeepsTable.{answer-length}
+use Rattle.guarantee.specs.KeepsTable.{opinion-length}
 
 -- ---- the rows
 
@@ -66,34 +65,34 @@ fresh-job l kind i = no-job 16 i
 
 -- ---- the session
 
-module _ (l : List ℕ) (e : answerOf l .number ≡ 0) where
+module _ (l : List ℕ) (e : opinionOf l .number ≡ 0) where
   abbrev fresh : Session
-  fresh = freshOf l (answerOf l .first)
+  fresh = freshOf l (opinionOf l .first)
 
   fit : Fit (tasksOf l)
-  fit = answer-fit l e
+  fit = opinion-fit l e
 
   rows : rowsOf fresh ≡ l
-  rows = fresh-rows l (answerOf l .first) (answer-length l e)
+  rows = fresh-rows l (opinionOf l .first) (opinion-length l e)
 
-  -- the answer is the one that soundness looks at
-  answer : answerOf (rowsOf fresh) ≡ answerOf l
-  answer = ap answerOf rows
+  -- the opinion is the one that soundness asks for
+  opinion : opinionOf (rowsOf fresh) ≡ opinionOf l
+  opinion = ap opinionOf rows
 
   fresh-start : Start (tasksOf l) (stateOf fresh)
   unfolding freshOf waits
   fresh-start = record {
     clock = refl;
-    next = λ i u. ap (λ (j : Job). j .next) (fresh-job l (answerOf l .first) i);
-    waits = λ i u. ap (λ (j : Job). ltb 0 (j .left)) (fresh-job l (answerOf l .first) i);
+    next = λ i u. ap (λ (j : Job). j .next) (fresh-job l (opinionOf l .first) i);
+    waits = λ i u. ap (λ (j : Job). ltb 0 (j .left)) (fresh-job l (opinionOf l .first) i);
   }
 
   fresh-facts : Facts fresh
   unfolding freshOf tasksOf
   fresh-facts = record {
     few = fit .few;
-    admitted = ap (λ (a : Answer). a .number) answer ∙ e;
-    kind = ap (λ (a : Answer). a .first) answer;
+    admitted = ap (λ (a : Opinion). a .number) opinion ∙ e;
+    kind = ap (λ (a : Opinion). a .first) opinion;
     clock = omega arith;
     next = λ i u. omega (arith, fresh-start .next i u);
     job = λ i u w. absurd (true≢false (sym w ∙ fresh-start .waits i u));
@@ -113,6 +112,5 @@ module _ (l : List ℕ) (e : answerOf l .number ≡ 0) where
     apt = λ n. absurd (omega arith);
   }
 
-pub good-fresh : (l : List ℕ) → answerOf l .number ≡ 0 → Good l (sessionOf l)
-unfolding sessionOf
-good-fresh l e = simp (eq-eqb (answerOf l .number) 0 e) (fresh-good l e)
+pub good-fresh : (l : List ℕ) → opinionOf l .number ≡ 0 → (s₀ : Session) → Good l (startOf s₀ l)
+good-fresh l e s₀ = rw (start-fresh s₀ l e) (fresh-good l e)

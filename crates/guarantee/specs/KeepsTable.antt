@@ -11,14 +11,14 @@ use Rattle.bounded.specs.Tests.{both}
 use Rattle.bounded.specs.Signed.{difference-sub}
 use Rattle.edf.specs.Demand.{TaskSet, interference}
 use Rattle.table.specs.Budgets.{budgetOf, brittle, firm-row}
-use Rattle.table.specs.Verdict.{badLength, answerOf}
+use Rattle.table.specs.Verdict.{badLength, opinionOf}
 use Rattle.session.specs.Reading.{natural, startBudget, mostBudget}
 
 -- ---- the length
 
-pub answer-length : (l : List ℕ) → answerOf l .number ≡ 0 → badLength (length l) ≡ false
-unfolding answerOf
-answer-length l z = both (badLength (length l)) (λ e. let x : 1 ≡ 0 = simp e at z in absurd (omega arith)) (λ e. e)
+pub opinion-length : (l : List ℕ) → opinionOf l .number ≡ 0 → badLength (length l) ≡ false
+unfolding opinionOf
+opinion-length l z = both (badLength (length l)) (λ e. let x : 1 ≡ 0 = simp e at z in absurd (omega arith)) (λ e. e)
 
 -- ---- the starting budget
 

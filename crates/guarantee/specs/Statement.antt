@@ -1,4 +1,4 @@
--- What is guaranteed over every list of calls (docs/SPECIFICATION.md §6.2), of the record of a refused table (§5.1), of the
+-- What is guaranteed over every list of calls (docs/SPECIFICATION.md §6.2), of a start and of the record of a refused table (§5.1), of the
 -- order of jobs and of a choice in a tight session (§5.4), of what a finish gives (§5.6), and of a batch of arrivals (§5.9).
 -- Definitions only. Assumes nothing.
 use Prim.Native.Nat.{ℕ, _+_, _-_, _≤_, _<_}
@@ -12,20 +12,33 @@ use lib.ListN.{length}
 use Rattle.edf.specs.Demand.{TaskSet}
 use Rattle.table.specs.Rows.{tasksOf}
 use Rattle.table.specs.Budgets.{brittle}
-use Rattle.table.specs.Verdict.{answerOf}
+use Rattle.table.specs.declared.Judgement.{Judgement}
+use Rattle.table.specs.Verdict.{opinionOf}
+use Rattle.table.specs.Opinion.{shownOf}
 pub use Rattle.table.specs.Statement.{OverloadDeserved}
 use Rattle.session.specs.declared.Session.{Session}
 use Rattle.session.specs.declared.Answer.{Answer}
 use Rattle.session.specs.declared.Arrival.{Arrival}
 use Rattle.session.specs.declared.Outcome.{Outcome}
+use Rattle.session.specs.declared.start.Started.{Started}
 use Rattle.session.specs.Reading.{idle, jobAt, tasks, waits}
 use Rattle.session.specs.Sound.{sound}
 use Rattle.session.specs.Order.{arrivalOf, cameBefore, headOf, nextDue, brittleDue, near, candidate, idles, candidates}
 use Rattle.session.specs.Choose.{pickOf, spanOf, pickUsed, usedOf}
 use Rattle.session.specs.Calls.{shown, three, gains, arriveOf, chooseOf, advanceOf, finishOf}
 use Rattle.session.specs.Batch.{answered, afterAll, answeredAll}
-use Rattle.session.specs.Admit.{sessionOf}
+use Rattle.session.specs.Start.{freshOf, startOf, sessionOf, Starts}
 use Rattle.guarantee.specs.Ledger.{Call, arrive, choose, advance, finish, Event, End, none, at, Entry, Ledger, ledgerOf}
+
+-- A START SAYS WHAT THE OPINION SAYS: j is the opinion on the table l, and r what a start of it gives where s₀ was there before.
+-- The verdict is the same. An admitted table gives the fresh session of the opinion's kind; a refused one leaves s₀.
+pub record SaysOpinion (s₀ : Session) (l : List ℕ) (j : Judgement) (r : Started) : Type 0 where
+  pub verdict : r .verdict ≡ j .verdict
+  pub fresh : shownOf j .number ≡ 0 → r .session ≡ freshOf l (shownOf j .first)
+  pub same : (shownOf j .number ≡ 0 → ⊥) → r .session ≡ s₀
+
+abbrev pub StartIsOpinion : Type 0
+StartIsOpinion = (s₀ : Session) (l : List ℕ) (j : Judgement) (r : Started) → shownOf j ≡ opinionOf l → Starts s₀ l r → SaysOpinion s₀ l j r
 
 -- what a call does to a session, by the definitions that the contracts of the four calls cite
 abbrev pub outcomeOf : Session → Call → Outcome
@@ -63,9 +76,10 @@ unfoldable pub eventsOf : Session → List HostCall → List Event
 eventsOf s [] = []
 eventsOf s (c ∷ l) = eventsBy s c ++ eventsOf (sessionBy s c) l
 
--- the session that calls lead to from the fresh session of a table
-abbrev pub sessionFrom : List ℕ → List HostCall → Session
-sessionFrom l calls = sessionAfter (sessionOf l) calls
+-- the session that calls lead to from a start of the table l, where s₀ was there before: a session that was running, a record
+-- of whatever content, or none
+abbrev pub sessionFrom : Session → List ℕ → List HostCall → Session
+sessionFrom s₀ l calls = sessionAfter (startOf s₀ l) calls
 
 -- a job that is over ended no later than its deadline, arrival + D; any other has its deadline still ahead of the clock
 abbrev pub Timely : TaskSet → ℕ → Entry → Type 0
@@ -82,15 +96,15 @@ AllTimely τ clock (e ∷ l) = Timely τ clock e × AllTimely τ clock l
 abbrev pub InTime : TaskSet → Ledger → Type 0
 InTime τ g = AllTimely τ (g .clock) (g .entries)
 
--- NO JOB IS LATE: from the fresh session of every admitted table, after every list of calls
+-- NO JOB IS LATE: from a start of every admitted table, whatever session was there before, after every list of calls
 abbrev pub NoJobLate : Type 0
 NoJobLate =
-    (l : List ℕ) → answerOf l .number ≡ 0
-    → (calls : List HostCall) → InTime (tasksOf l) (ledgerOf (tasksOf l) (eventsOf (sessionOf l) calls))
+    (l : List ℕ) → opinionOf l .number ≡ 0
+    → (s₀ : Session) (calls : List HostCall) → InTime (tasksOf l) (ledgerOf (tasksOf l) (eventsOf (startOf s₀ l) calls))
 
--- the session reached is sound, so that no call from a fresh session is refused with 5
+-- the session reached is sound, so that no call after a start is refused with 5
 abbrev pub AlwaysSound : Type 0
-AlwaysSound = (l : List ℕ) → answerOf l .number ≡ 0 → (calls : List HostCall) → sound (sessionFrom l calls) ≡ true
+AlwaysSound = (l : List ℕ) → opinionOf l .number ≡ 0 → (s₀ : Session) (calls : List HostCall) → sound (sessionFrom s₀ l calls) ≡ true
 
 -- none of these answers is 5
 abbrev pub NoFive : List Event → Type 0
@@ -99,8 +113,8 @@ NoFive (e ∷ l) = (e .answer .number ≡ 5 → ⊥) × NoFive l
 
 abbrev pub NeverFive : Type 0
 NeverFive =
-    (l : List ℕ) → answerOf l .number ≡ 0
-    → (calls : List HostCall) (c : HostCall) → NoFive (eventsBy (sessionFrom l calls) c)
+    (l : List ℕ) → opinionOf l .number ≡ 0
+    → (s₀ : Session) (calls : List HostCall) (c : HostCall) → NoFive (eventsBy (sessionFrom s₀ l calls) c)
 
 -- ONE BY ONE: a batch leaves the session that its arrives leave one by one, and its records, rows and answers, are these
 -- arrives with their answers
@@ -128,7 +142,7 @@ pub record Fives (s : Session) : Type 0 where
   pub all : (l : List Arrival) → EachFive s l
 
 abbrev pub AlwaysFive : Type 0
-AlwaysFive = (l : List ℕ) → (answerOf l .number ≡ 0 → ⊥) → Fives (sessionOf l)
+AlwaysFive = (l : List ℕ) → (opinionOf l .number ≡ 0 → ⊥) → Fives (sessionOf l)
 
 -- EQUAL CALLS GIVE EQUAL SCHEDULES: equal calls, with equal words, on equal sessions have equal outcomes. This holds of
 -- every function; that the code computes this one is the contract of each call.
@@ -158,13 +172,13 @@ pub record Arrived (i : ℕ) (a : ℤ) (l : List Entry) : Type 0 where
   pub waiting : entry .end ≡ none
   pub arrival : a ≡ pos (entry .arrival)
 
--- JOBS ARE ORDERED BY WHEN THEY REALLY ARRIVED: from the fresh session of every admitted table, after every list of calls, the
+-- JOBS ARE ORDERED BY WHEN THEY REALLY ARRIVED: from a start of every admitted table, after every list of calls, the
 -- arrival by which a waiting job is ordered is the one that the ledger has of it
 abbrev pub ArrivalsTold : Type 0
 ArrivalsTold =
-    (l : List ℕ) → answerOf l .number ≡ 0
-    → (calls : List HostCall) (i : ℕ) → i < tasksOf l .rows → waits (sessionFrom l calls) i ≡ true
-    → Arrived i (arrivalOf (sessionFrom l calls) i) (ledgerOf (tasksOf l) (eventsOf (sessionOf l) calls) .entries)
+    (l : List ℕ) → opinionOf l .number ≡ 0
+    → (s₀ : Session) (calls : List HostCall) (i : ℕ) → i < tasksOf l .rows → waits (sessionFrom s₀ l calls) i ≡ true
+    → Arrived i (arrivalOf (sessionFrom s₀ l calls) i) (ledgerOf (tasksOf l) (eventsOf (startOf s₀ l) calls) .entries)
 
 -- row i's job gains all of the ticks that the answer a of a finish reports as unused, which leads from s to s′: the cap,
 -- D − C, does not cut
@@ -172,14 +186,14 @@ pub record GainsAll (s s′ : Session) (a : Answer) (i : ℕ) : Type 0 where
   pub fits : jobAt s i .budget + shown a .second ≤ tasks s .D i - tasks s .C i
   pub all : jobAt s′ i .budget ≡ jobAt s i .budget + shown a .second
 
--- THE CAP CUTS NOTHING: from the fresh session of every admitted table, after every list of calls, where a finish is accepted,
+-- THE CAP CUTS NOTHING: from a start of every admitted table, after every list of calls, where a finish is accepted,
 -- each job that gains has all of the unused ticks as budget besides its own
 abbrev pub CapCutsNothing : Type 0
 CapCutsNothing =
-    (l : List ℕ) → answerOf l .number ≡ 0
-    → (calls : List HostCall) → shown (finishOf (sessionFrom l calls) .answer) .number ≡ 0
-    → (i : ℕ) → i < tasksOf l .rows → gains (sessionFrom l calls) i ≡ true
-    → GainsAll (sessionFrom l calls) (finishOf (sessionFrom l calls) .session) (finishOf (sessionFrom l calls) .answer) i
+    (l : List ℕ) → opinionOf l .number ≡ 0
+    → (s₀ : Session) (calls : List HostCall) → shown (finishOf (sessionFrom s₀ l calls) .answer) .number ≡ 0
+    → (i : ℕ) → i < tasksOf l .rows → gains (sessionFrom s₀ l calls) i ≡ true
+    → GainsAll (sessionFrom s₀ l calls) (finishOf (sessionFrom s₀ l calls) .session) (finishOf (sessionFrom s₀ l calls) .answer) i
 
 -- the head is the only candidate
 pub record HeadOnly (s : Session) : Type 0 where

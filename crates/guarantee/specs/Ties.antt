@@ -11,14 +11,14 @@ use lib.ListN.{getD, set}
 use lib.Seq.{getD-set-same, getD-set-other}
 use borrow.Author.Tests.{eq-eqb, ne-eqb}
 use Rattle.table.specs.Rows.{tasksOf}
-use Rattle.table.specs.Verdict.{answerOf}
+use Rattle.table.specs.Verdict.{opinionOf}
 use Rattle.session.specs.declared.Job.{Job}
 use Rattle.session.specs.declared.Session.{Session}
 use Rattle.session.specs.declared.Answer.{Answer}
 use Rattle.session.specs.Reading.{idle, noJob, jobAt}
 use Rattle.session.specs.Facts.{Running}
 use Rattle.session.specs.Calls.{Shown, shown, changed, jobsWith, arrivedJob, overJob, agedJob, givenJob}
-use Rattle.session.specs.Admit.{freshOf, sessionOf}
+use Rattle.session.specs.Start.{freshOf, startOf, start-fresh}
 use Rattle.guarantee.specs.Ledger.{Call, arrive, choose, advance, finish, Entry, Ledger, empty, ran, ended, onLatest, noted, kept}
 use Rattle.guarantee.specs.Statement.{outcomeOf, InTime}
 use Rattle.guarantee.specs.Good.{Good, good-places, in-table}
@@ -159,12 +159,12 @@ module _ (l : List ℕ) (g : Ledger) (s : Session) (good : Good l s) (tied : Tie
 
 -- ---- a fresh session: no entry, and no job
 
-pub tied-fresh : (l : List ℕ) → answerOf l .number ≡ 0 → Tied l empty (sessionOf l)
-unfolding sessionOf freshOf
-tied-fresh l e =
-    simp (eq-eqb _ _ e)
+pub tied-fresh : (l : List ℕ) → opinionOf l .number ≡ 0 → (s₀ : Session) → Tied l empty (startOf s₀ l)
+unfolding freshOf
+tied-fresh l e s₀ =
+    rw (start-fresh s₀ l e)
     (record {
       clock = refl;
       chosen = λ force. absurd (omega arith);
-      rows = λ i. nothing (ap (λ (j : Job). j .left) (fresh-job l (answerOf l .first) i));
+      rows = λ i. nothing (ap (λ (j : Job). j .left) (fresh-job l (opinionOf l .first) i));
     })

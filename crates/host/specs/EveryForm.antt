@@ -3,7 +3,7 @@ use mathlib.Core.Path.{_≡_, refl}
 use mathlib.Core.List.{List, [], _∷_, map}
 use Rattle.session.specs.declared.Session.{Session}
 use Rattle.session.specs.Calls.{shown}
-use Rattle.session.specs.Admit.{sessionOf}
+use Rattle.session.specs.Start.{startOf}
 use Rattle.guarantee.specs.Ledger.{Call}
 use Rattle.guarantee.specs.Statement.{outcomeOf, HostCall, single, batch, sessionBy, eventsBy, sessionFrom, eventsOf}
 use Rattle.guarantee.specs.Keeps.{never-five}
@@ -30,7 +30,7 @@ same-events s [] = refl
 same-events s (c ∷ l) = rw (same-by (c .0) s (c .1), same-events (sessionBy s (c .1)) l)
 
 pub no-job-late-any-form : NoJobLateAnyForm
-no-job-late-any-form l e calls = rw (same-events (sessionOf l) calls) (no-job-late l e (callsOf calls))
+no-job-late-any-form l e s₀ calls = rw (same-events (startOf s₀ l) calls) (no-job-late l e s₀ (callsOf calls))
 
 pub never-five-any-form : NeverFiveAnyForm
-never-five-any-form l e calls f c = rw (same-by f (sessionFrom l calls) c) (never-five l e calls c)
+never-five-any-form l e s₀ calls f c = rw (same-by f (sessionFrom s₀ l calls) c) (never-five l e s₀ calls c)

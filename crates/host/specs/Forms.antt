@@ -4,10 +4,10 @@ use Prim.Native.Nat.{ℕ}
 use mathlib.Core.Path.{_≡_}
 use mathlib.Core.List.{List, [], _∷_, _++_}
 use Rattle.table.specs.Rows.{tasksOf}
-use Rattle.table.specs.Verdict.{answerOf}
+use Rattle.table.specs.Verdict.{opinionOf}
 use Rattle.session.specs.declared.Session.{Session}
 use Rattle.session.specs.Calls.{Shown, shown, three}
-use Rattle.session.specs.Admit.{sessionOf}
+use Rattle.session.specs.Start.{startOf}
 use Rattle.guarantee.specs.Ledger.{Call, Event, ledgerOf}
 use Rattle.guarantee.specs.Statement.{outcomeOf, HostCall, single, batch, sessionBy, eventsBy, sessionFrom, NoFive, InTime}
 use Rattle.lent.specs.Reply as lending
@@ -41,15 +41,16 @@ unfoldable pub eventsIn : Session → List (Form × HostCall) → List Event
 eventsIn s [] = []
 eventsIn s (c ∷ l) = eventsByForm (c .0) s (c .1) ++ eventsIn (sessionBy s (c .1)) l
 
--- NO JOB IS LATE, IN ANY FORM: from the fresh session of every admitted table, after every list of calls, each of them by
--- value, on the lent record or through an export, and batches among them
+-- NO JOB IS LATE, IN ANY FORM: from a start of every admitted table, after every list of calls, each of them by value, on the
+-- lent record or through an export, and batches among them. The start too is made in any form: by value there is no session
+-- before; a lent record may have held anything.
 abbrev pub NoJobLateAnyForm : Type 0
 NoJobLateAnyForm =
-    (l : List ℕ) → answerOf l .number ≡ 0
-    → (calls : List (Form × HostCall)) → InTime (tasksOf l) (ledgerOf (tasksOf l) (eventsIn (sessionOf l) calls))
+    (l : List ℕ) → opinionOf l .number ≡ 0
+    → (s₀ : Session) (calls : List (Form × HostCall)) → InTime (tasksOf l) (ledgerOf (tasksOf l) (eventsIn (startOf s₀ l) calls))
 
 -- and no call from such a session answers 5, in any form, nor does a record of a batch hold it
 abbrev pub NeverFiveAnyForm : Type 0
 NeverFiveAnyForm =
-    (l : List ℕ) → answerOf l .number ≡ 0
-    → (calls : List HostCall) (f : Form) (c : HostCall) → NoFive (eventsByForm f (sessionFrom l calls) c)
+    (l : List ℕ) → opinionOf l .number ≡ 0
+    → (s₀ : Session) (calls : List HostCall) (f : Form) (c : HostCall) → NoFive (eventsByForm f (sessionFrom s₀ l calls) c)

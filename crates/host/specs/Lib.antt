@@ -1,5 +1,5 @@
 pub mod Reply
-pub mod Numbers
+pub mod Sound
 pub mod Forms
 pub mod EveryForm
 pub mod Meter

@@ -1,21 +1,21 @@
-// The library for C: the calls on a session record of the host, a batch of arrivals among them, and V of a table's rows
-// (docs/SPECIFICATION.md §9). A slice passes as a pointer and a length.
+// The library for C: the opinion on a table, and the calls on a session record of the host, a start and a batch of arrivals
+// among them (docs/SPECIFICATION.md §9). A slice passes as a pointer and a length.
 ghost use mathlib.Core.Path.{_≡_};
-ghost use Rattle.table.specs.Verdict.{answerOf};
-ghost use Rattle.session.specs.Admit.{sessionOf};
+ghost use Rattle.table.specs.Verdict.{opinionOf};
+ghost use Rattle.session.specs.Start.{startOf};
 ghost use Rattle.session.specs.Calls.{arriveOf, chooseOf, advanceOf, finishOf};
 ghost use Rattle.session.specs.Batch.{afterAll, answeredAll};
 ghost use Rattle.meter.specs.Meter.{measureOf};
 ghost use Rattle.host.specs.Meter.{meterReply, shapeOf};
-ghost use Rattle.host.specs.Reply.{replyOf, verdictOf, answered};
-ghost use Rattle.host.specs.Numbers.{soundNumber, budgetAt};
+ghost use Rattle.host.specs.Reply.{replyOf, startReply, answered, judgementOf};
+ghost use Rattle.host.specs.Sound.{soundNumber};
 use meter::Meter;
 use meter::Shape;
 use session::Arrival;
 use session::Outcome;
 use session::Session;
-use session::admit::Admission;
 use session::sound::is_sound;
+use session::start::Started;
 
 // An answer in numbers (`shown` gives them): its number, 0 where the call is accepted; the words that a choice used; and
 // two values.
@@ -25,6 +25,15 @@ pub struct Reply {
     pub used: u64,
     pub first: u64,
     pub second: u64,
+}
+
+// An opinion in numbers: its number, 0 where the table is admitted; two values; and V of each row.
+#[repr(C)]
+pub struct Judgement {
+    pub number: u64,
+    pub first: u64,
+    pub second: u64,
+    pub budgets: [i64; 16],
 }
 
 fn seen(o: Outcome) -> Reply
@@ -40,12 +49,11 @@ fn seen(o: Outcome) -> Reply
     }
 }
 
-// A verdict uses no word.
-fn judged(a: Admission) -> Reply
-    ensures { λ r. ⌜ r ≡ verdictOf a ⌝ }
+// A start uses no word.
+fn opened(o: Started) -> Reply
+    ensures { λ r. ⌜ r ≡ startReply o ⌝ }
 {
-    let assessment = a.assessment;
-    let verdict = assessment.verdict;
+    let verdict = o.verdict;
     let v = table::shown(verdict);
     Reply {
         number: v.number,
@@ -64,14 +72,31 @@ fn sound_number(s: Session) -> u32
     0
 }
 
-// What the record held before does not matter.
+// No session is made.
 #[no_mangle]
-pub extern "C" fn shuffle_admit(s: &mut Session, words: &[u32]) -> Reply
-    ensures { λ r. ⌜ (r ≡ answered (answerOf (now (words .entry)))) × (now (s .exit) ≡ sessionOf (now (words .entry))) ⌝ }
+pub extern "C" fn shuffle_opinion(words: &[u32]) -> Judgement
+    ensures { λ r. ⌜ r ≡ judgementOf (opinionOf (now (words .entry))) ⌝ }
 {
-    let a = session::admit::admit(words);
-    *s = a.session;
-    judged(a)
+    let j = table::opinion(words);
+    let verdict = j.verdict;
+    let said = table::shown(verdict);
+    let budgets = j.budgets;
+    Judgement {
+        number: said.number,
+        first: said.first,
+        second: said.second,
+        budgets,
+    }
+}
+
+// In place of whatever the record held, which a refused table leaves as it was.
+#[no_mangle]
+pub extern "C" fn shuffle_start(s: &mut Session, words: &[u32]) -> Reply
+    ensures { λ r. ⌜ (r ≡ answered (opinionOf (now (words .entry)))) × (now (s .exit) ≡ startOf (now (s .entry)) (now (words .entry))) ⌝ }
+{
+    let o = session::start::start_on(*s, words);
+    *s = o.session;
+    opened(o)
 }
 
 #[no_mangle]
@@ -123,24 +148,6 @@ pub extern "C" fn shuffle_is_sound(s: &Session) -> u32
     ensures { λ r. ⌜ r ≡ soundNumber (now (s .entry)) ⌝ }
 {
     sound_number(*s)
-}
-
-// V of a row; 0 where the table is refused or has no such row.
-#[no_mangle]
-pub extern "C" fn shuffle_budget(words: &[u32], row: u64) -> i64
-    ensures { λ r. ⌜ r ≡ budgetAt (now (words .entry)) row ⌝ }
-{
-    let a = table::assess(words);
-    let verdict = a.verdict;
-    let n = table::shown(verdict);
-    if n.number != 0 {
-        return 0;
-    }
-    if n.second <= row {
-        return 0;
-    }
-    let budgets = a.budgets;
-    budgets[row as usize]
 }
 
 fn metered(m: Meter) -> Reply

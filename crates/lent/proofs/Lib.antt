@@ -4,5 +4,5 @@ pub mod Number
 pub mod Alone
 pub mod Words
 pub mod Batch
-pub mod Fresh
+pub mod Table
 mod Result

@@ -1,23 +1,28 @@
 // The calls on a session record that the host lends (docs/SPECIFICATION.md §5.8). Each hands the record to the call by
 // value and writes back the session that it leaves, so that a refused call writes back the same value.
 ghost use mathlib.Core.Path.{_≡_};
-ghost use Rattle.table.specs.Verdict.{answerOf};
-ghost use Rattle.table.specs.Assess.{shownOf};
-ghost use Rattle.session.specs.Admit.{sessionOf};
+ghost use Rattle.table.specs.Verdict.{opinionOf};
+ghost use Rattle.table.specs.Opinion.{Says};
+ghost use Rattle.session.specs.Start.{startOf};
 ghost use Rattle.session.specs.Calls.{arriveOf, chooseOf, advanceOf, finishOf};
 ghost use Rattle.session.specs.Batch.{afterAll, answeredAll};
-ghost use Rattle.lent.specs.Reply.{replyOf};
+ghost use Rattle.lent.specs.Reply.{replyOf, openingOf};
 use session::Answer;
 use session::Arrival;
 use session::Outcome;
 use session::Session;
-use session::admit::Admission;
-use table::Assessment;
+use session::start::Started;
+use table::Verdict;
 
 // What the host sees of a call: the answer, and how many words a choice used.
 pub struct Reply {
     pub answer: Answer,
     pub used: u64,
+}
+
+// What it sees of a start: the verdict of the opinion on the table.
+pub struct Opening {
+    pub verdict: Verdict,
 }
 
 // A function of its own: the laws in proofs/ are for bodies that end in a call.
@@ -31,10 +36,11 @@ fn seen(o: Outcome) -> Reply
     }
 }
 
-fn verdict(a: Admission) -> Assessment
-    ensures { λ r. ⌜ r ≡ a .assessment ⌝ }
+fn opened(o: Started) -> Opening
+    ensures { λ r. ⌜ r ≡ openingOf o ⌝ }
 {
-    a.assessment
+    let verdict = o.verdict;
+    Opening { verdict }
 }
 
 pub fn arrive(s: &mut Session, row: u64) -> Reply
@@ -76,11 +82,11 @@ pub fn finish(s: &mut Session) -> Reply
     seen(o)
 }
 
-// What the record held before does not matter.
-pub fn admit(s: &mut Session, words: &[u32]) -> Assessment
-    ensures { λ r. ⌜ (shownOf r ≡ answerOf (now (words .entry))) × (now (s .exit) ≡ sessionOf (now (words .entry))) ⌝ }
+// In place of whatever the record held, which a refused table leaves as it was.
+pub fn start(s: &mut Session, words: &[u32]) -> Opening
+    ensures { λ r. ⌜ Says (r .verdict) (opinionOf (now (words .entry))) × (now (s .exit) ≡ startOf (now (s .entry)) (now (words .entry))) ⌝ }
 {
-    let a = session::admit::admit(words);
-    *s = a.session;
-    verdict(a)
+    let o = session::start::start_on(*s, words);
+    *s = o.session;
+    opened(o)
 }

@@ -16,7 +16,7 @@ use Rattle.decimal.specs.declared.read.Number.the-variants.{Of, None}
 use Rattle.decimal.specs.Number.{isDigit, allDigits, plain, digitsOf, numberOf}
 use Rattle.lines.specs.declared.read.Call.the-variants.{Arrive, Choose, Advance, Finish}
 use Rattle.lines.specs.declared.read.Line.{Line}
-use Rattle.lines.specs.declared.read.Line.the-variants.{Row, Word, Call, Unreadable}
+use Rattle.lines.specs.declared.read.Line.the-variants.{Row, Word, Call, Empty, Unreadable}
 use Rattle.lines.specs.Parted.{parted, onFirst, parted-none, parted-some, parted-not-none, Place, parted-whole, parted-at, tail-is}
 use Rattle.lines.specs.Line.{letterOf, bareOf, singleOf, tripleOf, given, givenThree, lineIn, lineOf}
 
@@ -168,8 +168,8 @@ two-bytes : (b e : ℕ) (l : List (List ℕ)) → lineIn (onFirst b (onFirst e l
 two-bytes b e [] = no-letter (b ∷ e ∷ []) refl []
 two-bytes b e (p ∷ l) = no-letter (b ∷ e ∷ p) refl l
 
-pub line-empty : (l : List ℕ) → length l ≡ 0 → Unreadable ≡ lineOf l
-unfolding lineOf parted bareOf
+pub line-empty : (l : List ℕ) → length l ≡ 0 → Empty ≡ lineOf l
+unfolding lineOf
 line-empty [] h = refl
 line-empty (b ∷ l) h = absurd (omega arith)
 

@@ -8,7 +8,7 @@ use Rattle.decimal.specs.declared.read.Number.the-variants.{Of, None}
 use Rattle.decimal.specs.Number.{numberOf}
 use Rattle.lines.specs.declared.read.Call.the-variants.{Arrive, Choose, Advance, Finish}
 use Rattle.lines.specs.declared.read.Line.{Line}
-use Rattle.lines.specs.declared.read.Line.the-variants.{Row, Word, Call, Unreadable}
+use Rattle.lines.specs.declared.read.Line.the-variants.{Row, Word, Call, Empty, Unreadable}
 use Rattle.lines.specs.Parted.{parted}
 
 -- the letter that a field is; 0 where it is not one byte
@@ -49,4 +49,5 @@ lineIn (c ∷ p ∷ q ∷ r ∷ s ∷ l) = Unreadable
 
 -- a line without its newline; its fields are parted by one tab
 unfoldable pub lineOf : List ℕ → Line
-lineOf l = lineIn (parted 9 l)
+lineOf [] = Empty
+lineOf (b ∷ l) = lineIn (parted 9 (b ∷ l))

@@ -31,6 +31,8 @@ pub enum Line {
     // `W`: a word for the queue.
     Word(u32),
     Call(Call),
+    // Nothing before the newline.
+    Empty,
     Unreadable,
 }
 
@@ -122,7 +124,7 @@ fn read_line(line: &[u8]) -> Line
     ensures { λ r. ⌜ r ≡ lineOf (now (line .entry)) ⌝ }
 {
     if line.len() == 0 {
-        return Line::Unreadable;
+        return Line::Empty;
     }
     let c = line[0];
     if line.len() == 1 {

@@ -11,8 +11,8 @@ use borrow.Author.Tests.{leb-true, ltb-true, eqb-true, eqb-false, le-leb, lt-ltb
 use Rattle.bounded.specs.Tests.{both, and-true, and-both, so-then, then-so, or-true}
 use Rattle.bounded.specs.All.{allTo, all-at, all-of}
 use Rattle.table.specs.Rows.{horizon, tasksOf, Fit}
-use Rattle.table.specs.Verdict.{answerOf}
-use Rattle.table.specs.Theorems.{answer-fit}
+use Rattle.table.specs.Verdict.{opinionOf}
+use Rattle.table.specs.Theorems.{opinion-fit}
 use Rattle.session.specs.declared.Session.{Session}
 use Rattle.session.specs.Reading.{idle, clockEnd, jobAt, rowsOf, tasks, waits, ahead, mostBudget}
 use Rattle.session.specs.Sound.{soundRows, soundWaiting, soundJob, runs, affords, soundChoice, sound}
@@ -40,8 +40,8 @@ pub record Choice (s : Session) : Type 0 where
 
 pub record Facts (s : Session) : Type 0 where
   pub few : s .count ≤ 16
-  pub admitted : answerOf (rowsOf s) .number ≡ 0
-  pub kind : answerOf (rowsOf s) .first ≡ s .kind
+  pub admitted : opinionOf (rowsOf s) .number ≡ 0
+  pub kind : opinionOf (rowsOf s) .first ≡ s .kind
   pub clock : s .clock ≤ clockEnd
   pub next : (i : ℕ) → i < s .count → jobAt s i .next ≤ s .clock + tasks s .T i
   pub job : (i : ℕ) → i < s .count → waits s i ≡ true → Waiting s i
@@ -95,8 +95,8 @@ facts-of s e =
     let a = and-true (soundRows s) _ e in
     let b = and-true (leb (s .clock) clockEnd) (allTo (soundJob s) (s .count) && soundChoice s) (a .1) in
     let c = and-true (allTo (soundJob s) (s .count)) (soundChoice s) (b .1) in
-    let r = and-true (leb (s .count) 16) (eqb (answerOf (rowsOf s) .number) 0 && eqb (answerOf (rowsOf s) .first) (s .kind)) (a .0) in
-    let k = and-true (eqb (answerOf (rowsOf s) .number) 0) (eqb (answerOf (rowsOf s) .first) (s .kind)) (r .1) in
+    let r = and-true (leb (s .count) 16) (eqb (opinionOf (rowsOf s) .number) 0 && eqb (opinionOf (rowsOf s) .first) (s .kind)) (a .0) in
+    let k = and-true (eqb (opinionOf (rowsOf s) .number) 0) (eqb (opinionOf (rowsOf s) .first) (s .kind)) (r .1) in
     let job : (i : ℕ) → i < s .count → soundJob s i ≡ true = all-at (soundJob s) (s .count) (c .0) in
     record {
       few = leb-true (s .count) 16 (r .0);
@@ -153,7 +153,7 @@ sound-of s f =
 
 -- its rows keep their rule
 pub facts-fit : (s : Session) → Facts s → Fit (tasks s)
-facts-fit s f = answer-fit (rowsOf s) (f .admitted)
+facts-fit s f = opinion-fit (rowsOf s) (f .admitted)
 
 -- past the table's rows D is read as 0
 past-deadline : (s : Session) (i : ℕ) → tasks s .rows ≤ i → tasks s .D i ≡ 0

@@ -9,7 +9,7 @@ pub mod Draw
 pub mod Calls
 pub mod Batch
 pub mod Jobs
-pub mod Admit
+pub mod Start
 pub mod Facts
 pub mod Brittle
 pub mod Ahead

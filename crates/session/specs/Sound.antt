@@ -4,13 +4,13 @@ use mathlib.Core.Bool.{Bool, not, _&&_, _||_}
 use lib.Dec.{leb, ltb, eqb}
 use Rattle.bounded.specs.All.{allTo}
 use Rattle.table.specs.Rows.{horizon}
-use Rattle.table.specs.Verdict.{answerOf}
+use Rattle.table.specs.Verdict.{opinionOf}
 use Rattle.session.specs.declared.Session.{Session}
 use Rattle.session.specs.Reading.{idle, clockEnd, jobAt, rowsOf, tasks, waits, ahead, mostBudget}
 
--- its rows, 16 at most, would be admitted as the kind it names
+-- the opinion on its rows, 16 at most, is that they are admitted as the kind it names
 unfoldable pub soundRows : Session → Bool
-soundRows s = leb (s .count) 16 && (eqb (answerOf (rowsOf s) .number) 0 && eqb (answerOf (rowsOf s) .first) (s .kind))
+soundRows s = leb (s .count) 16 && (eqb (opinionOf (rowsOf s) .number) 0 && eqb (opinionOf (rowsOf s) .first) (s .kind))
 
 -- a waiting job: remaining ≤ C, deadline = earliest next arrival − T + D, clock < deadline, budget ≤ D − C (0 where its row
 -- is brittle)

@@ -13,9 +13,9 @@ use Rattle.table.specs.declared.rows.Task.{Task}
 use Rattle.table.specs.Rows.{horizon, FitRow, Fit}
 use Rattle.table.specs.declared.kind.Kind.{Kind}
 use Rattle.table.specs.Budgets.{marks-at}
-use Rattle.table.specs.Verdict.{answerOf}
+use Rattle.table.specs.Verdict.{opinionOf}
 use Rattle.table.specs.Kind.{KindFor, kind-none, kind-some}
-use Rattle.table.specs.Theorems.{answer-fit}
+use Rattle.table.specs.Theorems.{opinion-fit}
 use Rattle.session.specs.declared.Job.{Job}
 use Rattle.session.specs.declared.Session.{Session}
 use Rattle.session.specs.declared.sound.Check.{Check}
@@ -258,11 +258,11 @@ module _ (s : Session) (few : s .count ≤ 16) (k : Kind) (h : KindFor (rowsOf s
       check-no s (k .brittle) c g
       (simp (
         le-leb (s .count) 16 few,
-        ne-eqb (answerOf (rowsOf s) .number) 0 (kind-none (rowsOf s) (sym (h .number) ∙ z)),
+        ne-eqb (opinionOf (rowsOf s) .number) 0 (kind-none (rowsOf s) (sym (h .number) ∙ z)),
       ))
 
   module _ (ne : k .number ≡ 0 → ⊥) where
-    answer-is : (answerOf (rowsOf s) .number ≡ 0) × (answerOf (rowsOf s) .first ≡ k .number)
+    answer-is : (opinionOf (rowsOf s) .number ≡ 0) × (opinionOf (rowsOf s) .first ≡ k .number)
     answer-is =
         let a = kind-some (rowsOf s) (λ z. ne (h .number ∙ z)) in
         (a .0, a .1 ∙ sym (h .number))
@@ -271,7 +271,7 @@ module _ (s : Session) (few : s .count ≤ 16) (k : Kind) (h : KindFor (rowsOf s
     marks-are : length (s .words) ≡ 48 → Marks s (k .brittle)
     marks-are p = record {
       at = λ i l. ap (λ (x : List Bool). getD x i false) (h .brittle ne)
-          ∙ marks-at (tasks s) i (answer-fit (rowsOf s) (answer-is .0)) (omega (arith, rows-count s few p));
+          ∙ marks-at (tasks s) i (opinion-fit (rowsOf s) (answer-is .0)) (omega (arith, rows-count s few p));
     }
 
     pub check-kind : (c : Check) → c ≡ unsoundWith (k .brittle) → (k .number ≡ s .kind → ⊥) → Checks s c
@@ -280,8 +280,8 @@ module _ (s : Session) (few : s .count ≤ 16) (k : Kind) (h : KindFor (rowsOf s
         check-no s (k .brittle) c g
         (simp (
           le-leb (s .count) 16 few,
-          eq-eqb (answerOf (rowsOf s) .number) 0 (answer-is .0),
-          ne-eqb (answerOf (rowsOf s) .first) (s .kind) (λ e. other (sym (answer-is .1) ∙ e)),
+          eq-eqb (opinionOf (rowsOf s) .number) 0 (answer-is .0),
+          ne-eqb (opinionOf (rowsOf s) .first) (s .kind) (λ e. other (sym (answer-is .1) ∙ e)),
         ))
 
     module _ (same : k .number ≡ s .kind) where
@@ -290,8 +290,8 @@ module _ (s : Session) (few : s .count ≤ 16) (k : Kind) (h : KindFor (rowsOf s
       rows-sound =
           simp (
             le-leb (s .count) 16 few,
-            eq-eqb (answerOf (rowsOf s) .number) 0 (answer-is .0),
-            eq-eqb (answerOf (rowsOf s) .first) (s .kind) (answer-is .1 ∙ same),
+            eq-eqb (opinionOf (rowsOf s) .number) 0 (answer-is .0),
+            eq-eqb (opinionOf (rowsOf s) .first) (s .kind) (answer-is .1 ∙ same),
           )
 
       pub check-clock : (c : Check) → c ≡ unsoundWith (k .brittle) → clockEnd < s .clock → Checks s c
@@ -305,7 +305,7 @@ module _ (s : Session) (few : s .count ≤ 16) (k : Kind) (h : KindFor (rowsOf s
           places = p;
           clock = u;
           rows = rows-count s few p;
-          fit = answer-fit (rowsOf s) (answer-is .0);
+          fit = opinion-fit (rowsOf s) (answer-is .0);
           marks = marks-are p;
         }
 

@@ -4,11 +4,11 @@ ghost use mathlib.Core.Path.{_≡_};
 ghost use Prim.Native.Nat.{min};
 ghost use lib.ListN.{length};
 ghost use Rattle.session.specs.Calls.{refused, shown, three, Shows};
-ghost use Rattle.session.specs.Admit.{wordsTo, freshOf, noSession};
+ghost use Rattle.session.specs.Start.{wordsTo, freshOf, noSession};
 
-pub mod admit;
 pub mod brittle;
 pub mod sound;
+pub mod start;
 
 // A row's earliest next arrival; and its waiting job's deadline, remaining ticks and budget left (the remaining inversion
 // budget). No job of the row waits where `left` is 0: nothing looks at `due` and `budget` then, and a call leaves 0 there.
@@ -143,7 +143,7 @@ impl Session {
 
     pub const ROWS: u64 = 16;
 
-    // A session of the rows of a table of this kind as they start. Admission calls it for the tables that it admits.
+    // A session of the rows of a table of this kind as they start. `start` calls it for the tables that are admitted.
     pub fn fresh(words: &[u32], kind: u64) -> Self
         ensures { λ r. ⌜ r ≡ freshOf (now (words .entry)) kind ⌝ }
     {
@@ -166,7 +166,7 @@ impl Session {
     }
 
     // No session: with no rows, every call on it answers 5.
-    fn none() -> Self
+    pub fn none() -> Self
         ensures { λ r. ⌜ r ≡ noSession ⌝ }
     {
         Self {

@@ -1,4 +1,4 @@
--- An answer computed with no look past the tick that decides it: the definitions search up to 1,000,000. Assumes nothing.
+-- An opinion computed with no look past the tick that decides it: the definitions search up to 1,000,000. Assumes nothing.
 use Prim.Native.Nat.{ℕ, zero, suc, _≤_, _<_}
 use mathlib.Core.Path.{_≡_, sym}
 use mathlib.Core.Bool.{Bool, true, false, not, _&&_}
@@ -17,8 +17,8 @@ use Rattle.edf.specs.Demand.{TaskSet, demand, request}
 use Rattle.table.specs.Rows.{horizon, tasksOf, firstBroken}
 use Rattle.table.specs.Budgets.{loose}
 use Rattle.table.specs.Busy.{busyLength}
-use Rattle.table.specs.Verdict.{refusal, admitted, badLength, comparedTo, firstOverload, overloaded, settled, heavyKind, opinionOf, answerOf}
-use Rattle.table.specs.Assess.{overloaded-none, overloaded-first}
+use Rattle.table.specs.Verdict.{refusal, admitted, badLength, comparedTo, firstOverload, overloaded, settled, heavyKind, judgedOf, opinionOf}
+use Rattle.table.specs.Opinion.{overloaded-none, overloaded-first}
 
 -- up to n there is no busy length, and no tick is exceeded
 unfoldable pub quietTo : TaskSet → ℕ → Bool
@@ -67,11 +67,11 @@ module _ (τ : TaskSet) (n : ℕ) (quiet : quietTo τ n ≡ true) where
       overloaded-first τ (suc n) (omega arith) (omega (arith, quiet-busy (omega arith))) over (λ x l k. quiet-at x l (omega arith) .1)
 
 module _ (l : List ℕ) (a : badLength (length l) ≡ false) (b : firstBroken (tasksOf l) ≡ tasksOf l .rows) (c : loose (tasksOf l) ≡ false) where
-  pub answer-over : (t : ℕ) → (t ≡ firstOverload (tasksOf l)) × (overloaded (tasksOf l) ≡ true) → answerOf l ≡ refusal 3 t (demand (tasksOf l) t)
-  unfolding answerOf opinionOf
-  answer-over t d = simp (a, le-ltb (firstBroken (tasksOf l)) (tasksOf l .rows) (omega arith), c, d .1, d .0)
+  pub opinion-over : (t : ℕ) → (t ≡ firstOverload (tasksOf l)) × (overloaded (tasksOf l) ≡ true) → opinionOf l ≡ refusal 3 t (demand (tasksOf l) t)
+  unfolding opinionOf judgedOf
+  opinion-over t d = simp (a, le-ltb (firstBroken (tasksOf l)) (tasksOf l .rows) (omega arith), c, d .1, d .0)
 
-  pub answer-heavy : overloaded (tasksOf l) ≡ false → busyLength (tasksOf l) ≤ horizon → answerOf l ≡ admitted (heavyKind (tasksOf l)) (tasksOf l)
-  unfolding answerOf opinionOf settled
-  answer-heavy d e =
+  pub opinion-heavy : overloaded (tasksOf l) ≡ false → busyLength (tasksOf l) ≤ horizon → opinionOf l ≡ admitted (heavyKind (tasksOf l)) (tasksOf l)
+  unfolding opinionOf judgedOf settled
+  opinion-heavy d e =
       simp (a, le-ltb (firstBroken (tasksOf l)) (tasksOf l .rows) (omega arith), c, d, le-leb (busyLength (tasksOf l)) horizon e)

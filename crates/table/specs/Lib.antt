@@ -1,4 +1,5 @@
 pub mod Rows
+pub mod Words
 pub mod Bound
 pub mod Inverse
 pub mod Request
@@ -11,7 +12,7 @@ pub mod Drop
 pub mod Overload
 pub mod First
 pub mod Verdict
-pub mod Assess
+pub mod Opinion
 pub mod Statement
 pub mod Theorems
 pub mod Settle

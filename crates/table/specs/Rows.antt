@@ -12,7 +12,7 @@ use Rattle.bounded.specs.Least.{leastFrom, least-before}
 use Rattle.edf.specs.Demand.{TaskSet, Lawful}
 use Rattle.table.specs.declared.rows.Task.{Task}
 
--- the longest time that a row may name, and the last tick that admission looks at
+-- the longest time that a row may name, and the last tick that an opinion looks at
 abbrev pub horizon : ℕ
 horizon = 1000000
 

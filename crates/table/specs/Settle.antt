@@ -16,7 +16,7 @@ use Rattle.bounded.specs.Within.{Within}
 use Rattle.table.specs.Leap.{Leap, Further}
 use Rattle.table.specs.Busy.{busyLength}
 use Rattle.table.specs.Verdict.{comparedTo, overloaded, settled}
-use Rattle.table.specs.Assess.{overloaded-none}
+use Rattle.table.specs.Opinion.{overloaded-none}
 use Rattle.table.specs.Theorems.{settled-fits}
 
 -- x is a stretch from a to e that is no shorter than its request; or 1,000,001, and there is none

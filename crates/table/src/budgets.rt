@@ -103,7 +103,7 @@ fn now_firm(a: bool, negative: bool) -> bool
     true
 }
 
-// V of every row. Internal: `assess` tests the rows first, which keeps each sum from wrapping.
+// V of every row. Internal: `opinion` tests the rows first, which keeps each sum from wrapping.
 pub fn all_budgets(words: &[u32], inverses: &[u64; 16]) -> Budgets
     requires { ⌜ Fit (tasksOf (now words)) × Inverses (tasksOf (now words)) (now inverses) ⌝ }
     ensures { λ r. ⌜ r ≡ budgetsOf (tasksOf (now (words .entry))) ⌝ }

@@ -14,7 +14,7 @@ pub struct Busy {
     pub sums: u64,
 }
 
-// The least r ≥ 1 that equals the sum over all rows of C times (r divided by T, rounded up). Internal: `assess` tests the
+// The least r ≥ 1 that equals the sum over all rows of C times (r divided by T, rounded up). Internal: `opinion` tests the
 // rows first.
 pub fn busy_length(words: &[u32], inverses: &[u64; 16]) -> Busy
     requires { ⌜ Fit (tasksOf (now words)) × Inverses (tasksOf (now words)) (now inverses) ⌝ }

@@ -28,7 +28,7 @@ pub fn owe(k: Prepared, t: u64) -> u64
     k.run * jobs_by(k.deadline, k.period, k.inverse, t)
 }
 
-// One row's part. Internal: its callers loop over rows that `assess` tested.
+// One row's part. Internal: its callers loop over rows that `opinion` tested.
 pub fn row_demand(words: &[u32], inverses: &[u64; 16], i: usize, t: u64) -> u64
     requires { ⌜ Fit (tasksOf (now words)) × Inverses (tasksOf (now words)) (now inverses) × (i < tasksOf (now words) .rows) × (t ≤ 1000000) ⌝ }
     ensures { λ r. ⌜ Within 1000000000000 (rowDemand (tasksOf (now (words .entry))) t i) r ⌝ }
@@ -37,7 +37,7 @@ pub fn row_demand(words: &[u32], inverses: &[u64; 16], i: usize, t: u64) -> u64
     owe(k, t)
 }
 
-// The sum, over the rows with D ≤ t, of C times ((t − D) divided by T, rounded down, plus 1). Internal: `assess` tests the
+// The sum, over the rows with D ≤ t, of C times ((t − D) divided by T, rounded down, plus 1). Internal: `opinion` tests the
 // rows first.
 pub fn demand_at(words: &[u32], inverses: &[u64; 16], t: u64) -> u64
     requires { ⌜ Fit (tasksOf (now words)) × Inverses (tasksOf (now words)) (now inverses) × (t ≤ 1000000) ⌝ }

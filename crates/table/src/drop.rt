@@ -151,7 +151,7 @@ fn sift(words: &[u32], inverses: &[u64; 16], t: u64, h: u64) -> u64
 }
 
 // Where the search goes on below t, whose demand h is no more than t: below h. At the 16th sum and every 64th from there on,
-// at the bound if that is lower. Where the steps lag behind the sieve at every 16th, and else by the sieve. Internal: `assess`
+// at the bound if that is lower. Where the steps lag behind the sieve at every 16th, and else by the sieve. Internal: `opinion`
 // tests the rows first.
 pub fn lower(words: &[u32], inverses: &[u64; 16], t: u64, h: u64, sums: u64, lag: u64) -> u64
     requires { ⌜ Fit (tasksOf (now words)) × Inverses (tasksOf (now words)) (now inverses) × (t ≤ 1000000) × (h ≤ t) × Lag (t - h) lag × Within 16000000000000 (demand (tasksOf (now words)) t) h ⌝ }

@@ -38,7 +38,7 @@ fn narrow(r: Range, middle: u64, f: Found) -> Range
     }
 }
 
-// The first tick that is exceeded, where `found` is one of them. Internal: `assess` tests the rows first.
+// The first tick that is exceeded, where `found` is one of them. Internal: `opinion` tests the rows first.
 pub fn first(words: &[u32], inverses: &[u64; 16], found: Found) -> Found
     requires { ⌜ Fit (tasksOf (now words)) × Inverses (tasksOf (now words)) (now inverses) × Exceeds (tasksOf (now words)) 0 1000000 found ⌝ }
     ensures { λ r. ⌜ First (tasksOf (now (words .entry))) found r ⌝ }

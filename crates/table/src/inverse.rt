@@ -15,7 +15,7 @@ fn inverse_of(period: u64) -> u64
     4398046511104 / period + 1
 }
 
-// Each row's, 0 past the last row. Internal: `assess` tests the rows first.
+// Each row's, 0 past the last row. Internal: `opinion` tests the rows first.
 pub fn inverses_of(words: &[u32]) -> [u64; 16]
     requires { ⌜ Fit (tasksOf (now words)) ⌝ }
     ensures { λ r. ⌜ Inverses (tasksOf (now (words .entry))) r ⌝ }
@@ -39,7 +39,7 @@ pub struct Prepared {
     pub inverse: u64,
 }
 
-// Row i. Internal: `assess` tests the rows first.
+// Row i. Internal: `opinion` tests the rows first.
 pub fn prepare(words: &[u32], inverses: &[u64; 16], i: usize) -> Prepared
     requires { ⌜ Fit (tasksOf (now words)) × Inverses (tasksOf (now words)) (now inverses) × (i < tasksOf (now words) .rows) ⌝ }
     ensures { λ r. ⌜ Ready (tasksOf (now (words .entry))) i r ⌝ }

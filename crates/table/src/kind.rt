@@ -1,5 +1,5 @@
 // What a session's check asks of a table: the kind that it is admitted as, and which rows are brittle (docs/SPECIFICATION.md
-// §5.2). It needs no busy length, nor which refusal it is, and so takes less than `assess`.
+// §5.2). It needs no busy length, nor which refusal it is, and so takes less than `opinion`.
 ghost use mathlib.Core.Path.{_≡_};
 ghost use Rattle.table.specs.Rows.{tasksOf, Fit};
 ghost use Rattle.table.specs.Kind.{fitKind, KindFor};

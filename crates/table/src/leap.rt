@@ -133,7 +133,7 @@ fn sift(words: &[u32], inverses: &[u64; 16], r: u64, next: u64) -> u64
 }
 
 // Where the iteration goes on after r, whose request is next: there. At the 16th sum and every 64th from there on, at the bound
-// if that is further. Where the steps lag behind the sieve at every 16th, and else by the sieve. Internal: `assess` tests the
+// if that is further. Where the steps lag behind the sieve at every 16th, and else by the sieve. Internal: `opinion` tests the
 // rows first.
 pub fn further(words: &[u32], inverses: &[u64; 16], r: u64, next: u64, sums: u64, lag: u64) -> u64
     requires { ⌜ Fit (tasksOf (now words)) × Inverses (tasksOf (now words)) (now inverses) × (1 ≤ r) × (r ≤ 1000000) × (r < next) × Lag (next - r) lag × Within 16000000000000 (request (tasksOf (now words)) r) next ⌝ }

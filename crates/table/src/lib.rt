@@ -1,9 +1,9 @@
-// Task tables: a lent slice of numbers, three to a row (docs/SPECIFICATION.md §2), and the verdict on it (§3).
+// Task tables: a lent slice of numbers, three to a row (docs/SPECIFICATION.md §2), and the opinion on it (§3).
 ghost use mathlib.Core.Path.{_≡_};
 ghost use Prim.Native.Nat.{min};
 ghost use Rattle.table.specs.Rows.{tasksOf, Fit};
-ghost use Rattle.table.specs.Verdict.{badLength, opinionOf, answerOf};
-ghost use Rattle.table.specs.Assess.{Shows, shownOf, refusedOf};
+ghost use Rattle.table.specs.Verdict.{badLength, judgedOf, opinionOf};
+ghost use Rattle.table.specs.Opinion.{Shows, shownOf, refusedOf};
 
 pub mod budgets;
 pub mod busy;
@@ -34,8 +34,8 @@ pub enum Verdict {
     Unsettled,
 }
 
-// The verdict, and V of each row: 0 past the last row, and in all places where the table is refused.
-pub struct Assessment {
+// An opinion: the verdict, and V of each row, 0 past the last row, and in all places where the table is refused.
+pub struct Judgement {
     pub verdict: Verdict,
     pub budgets: [i64; 16],
 }
@@ -89,10 +89,10 @@ pub fn shown(verdict: Verdict) -> Numbers
     }
 }
 
-fn refused(verdict: Verdict) -> Assessment
+fn refused(verdict: Verdict) -> Judgement
     ensures { λ r. ⌜ r ≡ refusedOf verdict ⌝ }
 {
-    Assessment {
+    Judgement {
         verdict,
         budgets: [0i64; 16],
     }
@@ -118,17 +118,17 @@ pub fn compared(busy: u64) -> u64
     if busy < 1000000 { busy } else { 1000000 }
 }
 
-// The verdict on rows that keep their rule.
-fn judge(words: &[u32]) -> Assessment
+// The opinion on rows that keep their rule.
+fn judge(words: &[u32]) -> Judgement
     requires { ⌜ Fit (tasksOf (now words)) ⌝ }
-    ensures { λ r. ⌜ shownOf r ≡ opinionOf (tasksOf (now (words .entry))) ⌝ }
+    ensures { λ r. ⌜ shownOf r ≡ judgedOf (tasksOf (now (words .entry))) ⌝ }
 {
     let rows = rows::count(words);
     let inverses = inverse::inverses_of(words);
     let b = budgets::all_budgets(words, &inverses);
     let values = b.values;
     if b.loose {
-        return Assessment {
+        return Judgement {
             verdict: Verdict::Loose { rows },
             budgets: values,
         };
@@ -146,20 +146,20 @@ fn judge(words: &[u32]) -> Assessment
         return refused(Verdict::Unsettled);
     }
     if b.firm {
-        return Assessment {
+        return Judgement {
             verdict: Verdict::Mixed { rows },
             budgets: values,
         };
     }
-    Assessment {
+    Judgement {
         verdict: Verdict::Tight { rows },
         budgets: values,
     }
 }
 
-// The verdict on any slice.
-pub fn assess(words: &[u32]) -> Assessment
-    ensures { λ r. ⌜ shownOf r ≡ answerOf (now (words .entry)) ⌝ }
+// The opinion on any slice. No session is made: `session::start::start` does that.
+pub fn opinion(words: &[u32]) -> Judgement
+    ensures { λ r. ⌜ shownOf r ≡ opinionOf (now (words .entry)) ⌝ }
 {
     let n = words.len();
     if ill_sized(n) {

@@ -17,7 +17,7 @@ pub struct Found {
     pub sums: u64,
 }
 
-// Looks at the ticks above floor, up to end, from the end down. Internal: `assess` tests the rows first.
+// Looks at the ticks above floor, up to end, from the end down. Internal: `opinion` tests the rows first.
 pub fn search(words: &[u32], inverses: &[u64; 16], floor: u64, end: u64) -> Found
     requires { ⌜ Fit (tasksOf (now words)) × Inverses (tasksOf (now words)) (now inverses) × (end ≤ 1000000) ⌝ }
     ensures { λ r. ⌜ Searched (tasksOf (now (words .entry))) floor end r ⌝ }

@@ -27,7 +27,7 @@ pub fn ask(k: Prepared, x: u64) -> u64
     k.run * ceiling(x, k.period, k.inverse)
 }
 
-// One row's part. Internal: its callers loop over rows that `assess` tested.
+// One row's part. Internal: its callers loop over rows that `opinion` tested.
 pub fn row_request(words: &[u32], inverses: &[u64; 16], i: usize, x: u64) -> u64
     requires { ⌜ Fit (tasksOf (now words)) × Inverses (tasksOf (now words)) (now inverses) × (i < tasksOf (now words) .rows) × (x ≤ 1000000) ⌝ }
     ensures { λ r. ⌜ Within 1000000000000 (rowRequest (tasksOf (now (words .entry))) x i) r ⌝ }
@@ -36,7 +36,7 @@ pub fn row_request(words: &[u32], inverses: &[u64; 16], i: usize, x: u64) -> u64
     ask(k, x)
 }
 
-// The sum over all rows of C times (x divided by T, rounded up). Internal: `assess` tests the rows first.
+// The sum over all rows of C times (x divided by T, rounded up). Internal: `opinion` tests the rows first.
 pub fn requested(words: &[u32], inverses: &[u64; 16], x: u64) -> u64
     requires { ⌜ Fit (tasksOf (now words)) × Inverses (tasksOf (now words)) (now inverses) × (x ≤ 1000000) ⌝ }
     ensures { λ r. ⌜ Within 16000000000000 (request (tasksOf (now (words .entry))) x) r ⌝ }

@@ -95,7 +95,7 @@ fn lasts(marks: &[u32], s: u64) -> u64
     256
 }
 
-// How many ticks from `at` on, back or forth and up to 256, the slack s lasts. Internal: `assess` tests the rows first.
+// How many ticks from `at` on, back or forth and up to 256, the slack s lasts. Internal: `opinion` tests the rows first.
 pub fn sieve(words: &[u32], inverses: &[u64; 16], at: u64, back: bool, s: u64) -> u64
     requires { ⌜ Fit (tasksOf (now words)) × Inverses (tasksOf (now words)) (now inverses) × (at ≤ 1000000) × (s < 256) ⌝ }
     ensures { λ r. ⌜ Sieved (tasksOf (now (words .entry))) at back s r ⌝ }

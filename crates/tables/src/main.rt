@@ -46,7 +46,7 @@ fn put_sums(words: &[u32])
 }
 
 fn answer(words: &[u32]) {
-    let a = table::assess(words);
+    let a = table::opinion(words);
     let verdict = a.verdict;
     let budgets = a.budgets;
     let n = table::shown(verdict);

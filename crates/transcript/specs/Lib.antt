@@ -2,9 +2,9 @@ pub mod Step
 pub mod Play
 pub mod Transcript
 pub mod Table
-pub mod Admission
 pub mod Kept
 pub mod Short
 pub mod Plays
 pub mod Entry
 pub mod Empty
+pub mod Alone

@@ -12,7 +12,7 @@ use Rattle.decimal.specs.Buffer.{Wrote, overlay, overlay-none, overlay-more, wr
 use Rattle.lines.specs.declared.read.Call.{Call}
 use Rattle.lines.specs.declared.read.Call.the-variants.{Arrive, Choose, Advance, Finish}
 use Rattle.lines.specs.declared.read.Line.{Line}
-use Rattle.lines.specs.declared.read.Line.the-variants.{Row, Word, Call as CallLine, Unreadable}
+use Rattle.lines.specs.declared.read.Line.the-variants.{Row, Word, Call as CallLine, Empty, Unreadable}
 use Rattle.lines.specs.declared.read.Next.{Next}
 use Rattle.lines.specs.Lines.{linesOf, lines-end, leastSize, Took}
 use Rattle.session.specs.declared.Session.{Session}
@@ -30,6 +30,7 @@ unfolding stepOf
 kept-step s q n (Row c t d) g = g
 kept-step s q n (Word w) g = both (ltb (length q) queueLimit) (λ e. rw e g) (λ e. rw e g)
 kept-step s q n (CallLine c) g = kept-call s g q c
+kept-step s q n Empty g = g
 kept-step s q n Unreadable g = g
 
 -- how many words a line queues; each takes four bytes
@@ -37,12 +38,14 @@ abbrev pub wordsIn : Line → ℕ
 wordsIn (Row c t d) = 0
 wordsIn (Word w) = 1
 wordsIn (CallLine c) = 0
+wordsIn Empty = 0
 wordsIn Unreadable = 0
 
 words-size : (x : Line) → 4 * wordsIn x ≤ leastSize x
 words-size (Row c t d) = omega arith
 words-size (Word w) = omega arith
 words-size (CallLine c) = omega arith
+words-size Empty = omega arith
 words-size Unreadable = omega arith
 
 some-size : (x : Line) → 1 ≤ leastSize x
@@ -52,6 +55,7 @@ some-size (CallLine (Arrive row)) = omega arith
 some-size (CallLine Choose) = omega arith
 some-size (CallLine (Advance n)) = omega arith
 some-size (CallLine Finish) = omega arith
+some-size Empty = omega arith
 some-size Unreadable = omega arith
 
 -- ---- the loop
@@ -216,8 +220,12 @@ module _ (text : List ℕ) (start : ℕ) (s₀ : Session) (p₀ : Play) (first :
         unfolding stepOf
         play-row c t d e = step-over s r words out′ (rw e (did-unread p r words out out′ (now .order) s u 0)) (u .over)
 
+        pub play-empty : n .line ≡ Empty → Whole (r .end) out′
+        unfolding stepOf
+        play-empty e = step-over s r words out′ (rw e (did-unread p r words out out′ (now .order) s u 0)) (u .over)
+
         pub play-unreadable : n .line ≡ Unreadable → Whole (r .end) out′
         unfolding stepOf
         play-unreadable e = step-over s r words out′ (rw e (did-unread p r words out out′ (now .order) s u 0)) (u .over)
 
-pub ruleset play-laws = (play-start, play-less, play-ready, play-place, play-word, play-full, play-call, play-row, play-unreadable, play-done)
+pub ruleset play-laws = (play-start, play-less, play-ready, play-place, play-word, play-full, play-call, play-row, play-empty, play-unreadable, play-done)

@@ -13,7 +13,7 @@ use Rattle.decimal.specs.Decimal.{decimal-short}
 use Rattle.lines.specs.declared.read.Call.{Call}
 use Rattle.lines.specs.declared.read.Call.the-variants.{Arrive, Choose, Advance, Finish}
 use Rattle.lines.specs.declared.read.Line.{Line}
-use Rattle.lines.specs.declared.read.Line.the-variants.{Row, Word, Call as CallLine, Unreadable}
+use Rattle.lines.specs.declared.read.Line.the-variants.{Row, Word, Call as CallLine, Empty, Unreadable}
 use Rattle.lines.specs.Lines.{leastSize}
 use Rattle.lines.specs.Text.{line-length}
 use Rattle.table.specs.Rows.{horizon}
@@ -120,4 +120,5 @@ open-short s g q n (CallLine Choose) e h =
 open-short s g q n (CallLine (Advance k)) e h = omega arith
 open-short s g q n (CallLine Finish) e h =
     omega (arith, answer-short (finishOf s .session .clock) 70 (finishOf s .answer) (clock-short s g q Finish) (finish-small s g))
+open-short s g q n Empty e h = absurd (true≢false e)
 open-short s g q n Unreadable e h = absurd (true≢false e)

@@ -7,7 +7,7 @@ use lib.ListN.{length, drop}
 use Rattle.lines.specs.declared.read.Call.{Call}
 use Rattle.lines.specs.declared.read.Call.the-variants.{Arrive, Choose, Advance, Finish}
 use Rattle.lines.specs.declared.read.Line.{Line}
-use Rattle.lines.specs.declared.read.Line.the-variants.{Row, Word, Call as CallLine, Unreadable}
+use Rattle.lines.specs.declared.read.Line.the-variants.{Row, Word, Call as CallLine, Empty, Unreadable}
 use Rattle.lines.specs.Text.{lineText}
 use Rattle.session.specs.declared.Session.{Session}
 use Rattle.session.specs.declared.Answer.{Answer}
@@ -63,6 +63,7 @@ unfoldable pub stepOf : Session → List ℕ → ℕ → Line → Step
 stepOf s q n (Row c t d) = unread s q n
 stepOf s q n (Word w) = cond (ltb (length q) queueLimit) (queued s (q ++ w ∷ [])) (unread s q n)
 stepOf s q n (CallLine c) = told (letterOf c) q (callOf s q c)
+stepOf s q n Empty = unread s q n
 stepOf s q n Unreadable = unread s q n
 
 -- the lines after the table, from line number n on

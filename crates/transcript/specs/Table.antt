@@ -3,19 +3,19 @@ use Prim.Native.Nat.{ℕ, zero, suc, _+_, _-_, _*_, _≤_, _<_}
 use mathlib.Core.Path.{_≡_, refl, ap, _∙_}
 use mathlib.Core.List.{List, [], _∷_, _++_, append-assoc, append-nil}
 use native.Mathlib.Omega.{arith}
-use lib.ListN.{length, take, drop, set, replicate, length-set, length-append, length-take}
-use lib.Seq.{sets-eq, take-at}
+use lib.ListN.{length, take, drop, replicate}
 use Rattle.lines.specs.declared.read.Line.{Line}
-use Rattle.lines.specs.declared.read.Line.the-variants.{Row, Word, Call, Unreadable}
+use Rattle.lines.specs.declared.read.Line.the-variants.{Row, Word, Call, Empty, Unreadable}
 use Rattle.lines.specs.declared.read.Next.{Next}
 use Rattle.lines.specs.Lines.{linesOf, lines-end, Took}
+use Rattle.table.specs.Words.{wordsWith, words-places, words-more}
 use Rattle.transcript.specs.declared.rows.Rows.{Rows}
 use Rattle.transcript.specs.Transcript.{rowLimit, rowsIn, afterRows}
 
 -- one row more, with the place of the line after it
 abbrev pub withRow : Rows → ℕ → ℕ → ℕ → ℕ → Rows
 withRow t c p d at = record {
-  words = set (set (set (t .words) (3 * t .count) c) (3 * t .count + 1) p) (3 * t .count + 2) d;
+  words = wordsWith (t .words) (t .count) c p d;
   count = t .count + 1;
   at = at;
 }
@@ -43,15 +43,6 @@ pub record Reading (l : List ℕ) (t : Rows) : Type 0 where
 pub reading-start : (l : List ℕ) → Reading l (record { words = replicate 48 0; count = 0; at = 0 })
 reading-start l = record { rows = refl; rest = refl; places = refl; few = omega arith; within = omega arith; size = omega arith }
 
--- the words of one row more
-with-row-words : (w : List ℕ) (k c p d : ℕ) → k < 16 → length w ≡ 48
-    → take (3 * (k + 1)) (set (set (set w (3 * k) c) (3 * k + 1) p) (3 * k + 2) d) ≡ take (3 * k) w ++ c ∷ p ∷ d ∷ []
-with-row-words w k c p d h e =
-    let q : 3 * k + 1 ≡ suc (3 * k) = omega arith in
-    let r : 3 * k + 2 ≡ suc (suc (3 * k)) = omega arith in
-    rw (q, r, sets-eq (c ∷ p ∷ d ∷ []) w (3 * k) (omega arith))
-    (take-at (take (3 * k) w ++ c ∷ p ∷ d ∷ []) _ (3 * (k + 1)) (simp (length-append, length-take) (omega arith)))
-
 rows-none : (k : ℕ) → rowsIn k [] ≡ []
 rows-none zero = refl
 rows-none (suc k) = refl
@@ -66,6 +57,7 @@ rows-other zero x m ne = refl
 rows-other (suc k) (Row c p d) m ne = absurd (ne c p d refl)
 rows-other (suc k) (Word w) m ne = refl
 rows-other (suc k) (Call c) m ne = refl
+rows-other (suc k) Empty m ne = refl
 rows-other (suc k) Unreadable m ne = refl
 
 after-other : (k : ℕ) (x : Line) (m : List Line) → ((c p d : ℕ) → x ≡ Row c p d → ⊥) → afterRows k (x ∷ m) ≡ x ∷ m
@@ -73,6 +65,7 @@ after-other zero x m ne = refl
 after-other (suc k) (Row c p d) m ne = absurd (ne c p d refl)
 after-other (suc k) (Word w) m ne = refl
 after-other (suc k) (Call c) m ne = refl
+after-other (suc k) Empty m ne = refl
 after-other (suc k) Unreadable m ne = refl
 
 -- one row less is left to read
@@ -85,11 +78,11 @@ module _ (l : List ℕ) (t : Rows) (r : Reading l t) where
   reading-next n c p d u h k e f =
       let left : rowLimit - t .count ≡ suc (rowLimit - (t .count + 1)) = omega arith in
       let lines : linesOf (drop (t .at) l) ≡ Row c p d ∷ linesOf (drop (n .at) l) = k .lines ∙ rw e in
-      let more : t .at + 2 ≤ n .at = rw e at (k .size) in
+      let more : t .at + 8 ≤ n .at = rw e at (k .size) in
       rw f (record {
-        rows = r .rows ∙ rw (left, lines, with-row-words (t .words) (t .count) c p d h (r .places)) (simp append-assoc);
+        rows = r .rows ∙ rw (left, lines, words-more (t .words) (t .count) c p d h (r .places)) (simp append-assoc);
         rest = r .rest ∙ rw (left, lines);
-        places = simp length-set (r .places);
+        places = words-places (t .words) (t .count) c p d ∙ r .places;
         few = omega arith;
         within = k .within;
         size = omega arith;

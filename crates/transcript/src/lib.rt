@@ -1,14 +1,16 @@
 // The text that `shuffle` reads and writes, as one function from bytes to bytes (docs/SPECIFICATION.md §8).
 ghost use mathlib.Core.Path.{_≡_};
-ghost use Prim.Native.Nat.{_≤_, min};
+ghost use Prim.Native.Nat.{_≤_};
 ghost use lib.ListN.{length};
 ghost use Rattle.decimal.specs.Buffer.{Wrote};
 ghost use Rattle.lines.specs.Lines.{linesOf};
 ghost use Rattle.transcript.specs.Transcript.{inputLimit, printedOf, roomFor, Transcribed};
 ghost use Rattle.transcript.specs.Plays.{roomOf};
+use report::least;
+use session::Session;
+use session::start::start_by;
 use step::Play;
 
-mod admission;
 mod play;
 mod rows;
 mod step;
@@ -19,17 +21,11 @@ const INPUT: usize = 65536;
 // A buffer of this length holds every output.
 pub const LONGEST: usize = 1443356;
 
-fn least(n: usize) -> usize
-    ensures { λ r. ⌜ r ≡ min n inputLimit ⌝ }
-{
-    if n < INPUT { n } else { INPUT }
-}
-
 // How long a buffer has to be for n bytes of input.
 pub fn room_for(n: usize) -> usize
     ensures { λ r. ⌜ r ≡ roomFor n ⌝ }
 {
-    1564 + 22 * least(n)
+    1564 + 22 * least(n, INPUT)
 }
 
 // A text that may be read whole.
@@ -41,19 +37,19 @@ fn print(text: &[u8], out: &mut [u8]) -> usize
     let words = t.words;
     let count = t.count;
     let e = 3 * count;
-    let a = session::admit::admit(&words[..e]);
-    let assessment = a.assessment;
-    let end = admission::put_admission(out, assessment, count);
-    let verdict = assessment.verdict;
+    let line = (count as u64) + 1;
+    let judgement = table::opinion(&words[..e]);
+    let end = report::put_opinion(out, 0, judgement, count);
+    let verdict = judgement.verdict;
     let n = table::shown(verdict);
     if n.number != 0 {
         return end;
     }
-    let session = a.session;
+    let session = start_by(Session::none(), &words[..e], verdict);
     let p = Play {
         from: 0,
         to: 0,
-        line: (count as u64) + 1,
+        line,
         end,
         over: false,
     };
@@ -68,6 +64,6 @@ pub fn transcribe(input: &[u8], out: &mut [u8]) -> usize
     if out.len() < room_for(input.len()) {
         return 0;
     }
-    let n = least(input.len());
+    let n = least(input.len(), INPUT);
     print(&input[..n], out)
 }

@@ -46,6 +46,9 @@ pub fn play(text: &[u8], start: usize, session: Session, first: Play, out: &mut 
             Line::Row { .. } => {
                 return refuse(p, s.clock, out).end;
             }
+            Line::Empty => {
+                return refuse(p, s.clock, out).end;
+            }
             Line::Unreadable => {
                 return refuse(p, s.clock, out).end;
             }

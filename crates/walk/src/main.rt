@@ -32,8 +32,8 @@ fn told(o: Outcome, letter: &[u8]) -> Session {
 }
 
 fn fresh(words: &[u32]) -> Session {
-    let a = session::admit::admit(words);
-    a.session
+    let r = session::start::start(words);
+    r.session
 }
 
 fn listing() {

@@ -1,7 +1,8 @@
 //! Builds an input while the model follows it, so that the next line can be
 //! picked to be accepted or refused.
 
-use crate::table::{admit_rows, Row};
+use crate::session::start_rows;
+use crate::table::Row;
 use crate::text::{Command, Machine, Outcome};
 
 pub struct Driver {
@@ -12,9 +13,9 @@ pub struct Driver {
 impl Driver {
     /// Opens an input with the rows of a table, which must be admitted.
     pub fn new(rows: &[Row]) -> Self {
-        let table = admit_rows(rows).expect("a driver needs an admitted table");
+        let session = start_rows(rows).expect("a driver needs an admitted table");
         Driver {
-            machine: Machine::new(table),
+            machine: Machine::new(session),
             text: table_text(rows),
         }
     }

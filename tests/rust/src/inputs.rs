@@ -6,7 +6,7 @@ use crate::overloaded::{late_overload_rows, overloaded_rows};
 use crate::rng::Rng;
 use crate::runs::{extend, Style};
 use crate::specification::plain;
-use crate::table::{self, admit_rows, Row, HORIZON, ROW_LIMIT};
+use crate::table::{self, opinion_on, Row, HORIZON, ROW_LIMIT};
 use crate::tables::{
     admitted, admitted_as, any_rows, close_rows, full_rows, light_rows, long_busy_rows,
     part_brittle_rows, roomy_rows, small_rows, staggered_rows, RowMaker,
@@ -21,7 +21,7 @@ pub struct Kind {
     make: fn(&mut Rng) -> Vec<u8>,
 }
 
-const fn kind(name: &'static str, weight: usize, make: fn(&mut Rng) -> Vec<u8>) -> Kind {
+pub const fn kind(name: &'static str, weight: usize, make: fn(&mut Rng) -> Vec<u8>) -> Kind {
     Kind { name, weight, make }
 }
 
@@ -55,11 +55,11 @@ pub const KINDS: &[Kind] = &[
     kind("far-clock", 4, far_clock),
 ];
 
-/// A random input, and the place of its kind in `KINDS`.
-pub fn random_input(rng: &mut Rng) -> (usize, Vec<u8>) {
-    let all_weights: usize = KINDS.iter().map(|kind| kind.weight).sum();
+/// A random input of some kind, and the place of that kind.
+pub fn random_input(kinds: &[Kind], rng: &mut Rng) -> (usize, Vec<u8>) {
+    let all_weights: usize = kinds.iter().map(|kind| kind.weight).sum();
     let mut ticket = rng.below(all_weights);
-    for (index, kind) in KINDS.iter().enumerate() {
+    for (index, kind) in kinds.iter().enumerate() {
         match ticket.checked_sub(kind.weight) {
             Some(rest) => ticket = rest,
             None => return (index, (kind.make)(rng)),
@@ -98,7 +98,7 @@ fn late_overload(rng: &mut Rng) -> Vec<u8> {
 /// Random calls after a table; a refused table is followed by one call, which
 /// must go unanswered.
 fn table_with_calls(rng: &mut Rng, rows: &[Row], steps: usize) -> Vec<u8> {
-    if admit_rows(rows).is_ok() {
+    if opinion_on(rows).is_ok() {
         return run_on(rng, rows, steps);
     }
     let mut text = table_text(rows);

@@ -3,7 +3,9 @@
 
 pub mod batches;
 pub mod calls;
+pub mod comparison;
 pub mod damage;
+pub mod desks;
 pub mod draws;
 pub mod driver;
 pub mod gifts;
@@ -11,9 +13,12 @@ pub mod hard;
 pub mod inputs;
 pub mod meter;
 pub mod mixed;
+pub mod opinions;
 pub mod options;
 pub mod overloaded;
 pub mod overloads;
+pub mod parts;
+pub mod plans;
 pub mod process;
 pub mod questions;
 pub mod readings;
@@ -29,7 +34,9 @@ pub mod shrink;
 #[cfg(feature = "host")]
 #[path = "../../../bindings/rust/shuffle.rs"]
 pub mod shuffle;
+pub mod sixteen;
 pub mod specification;
+pub mod starts;
 pub mod table;
 pub mod tables;
 pub mod tally;

@@ -7,7 +7,7 @@ use std::fmt;
 use crate::calls::{candidates, candidates_where, pick};
 use crate::gifts::{shares, wrong_execute_without_gifts, Share};
 use crate::session::{Choice, Session, IDLE};
-use crate::table::{admit_rows, brittle_rows, budget, Kind, Row, ROW_LIMIT};
+use crate::table::{brittle_rows, opinion_on, Kind, Opinion, Row, ROW_LIMIT};
 use crate::tally::{too_rare, Among};
 use crate::text::{leading_rows, run_with, Command, Machine, Outcome};
 
@@ -39,16 +39,17 @@ pub struct TableTally {
 impl TableTally {
     /// Counts a table, unless it is refused.
     pub fn add(&mut self, rows: &[Row]) {
-        let Ok(table) = admit_rows(rows) else {
+        let Ok(Opinion { kind, budgets }) = opinion_on(rows) else {
             return;
         };
         self.admitted += 1;
-        self.tight += u64::from(table.kind == Kind::Tight);
-        if table.kind == Kind::Mixed {
+        self.tight += u64::from(kind == Kind::Tight);
+        if kind == Kind::Mixed {
             self.mixed += 1;
-            self.zero += u64::from((0..rows.len()).any(|row| budget(rows, row) == 0));
+            self.zero += u64::from(budgets.contains(&0));
             self.most_rows += u64::from(rows.len() == ROW_LIMIT);
-            self.brittle[brittle_rows(rows).len() - 1] += 1;
+            let brittle = budgets.iter().filter(|v| **v < 0).count();
+            self.brittle[brittle - 1] += 1;
         }
     }
 
@@ -66,10 +67,10 @@ impl TableTally {
     /// Which of the counts are too low for a comparison that means something.
     pub fn gaps(&self) -> Vec<String> {
         let counts = [
-            (self.mixed, MIXED, "admit a mixed table"),
-            (self.tight, TIGHT, "admit a tight table"),
-            (self.zero, ZERO, "admit a mixed table with a V of 0"),
-            (self.most_rows, MOST_ROWS, "admit a mixed table of 16 rows"),
+            (self.mixed, MIXED, "start a mixed table"),
+            (self.tight, TIGHT, "start a tight table"),
+            (self.zero, ZERO, "start a mixed table with a V of 0"),
+            (self.most_rows, MOST_ROWS, "start a mixed table of 16 rows"),
         ];
         let few = (1..).zip(self.brittle).filter(|(_, count)| *count < EACH);
         let few = few.map(|(rows, count)| {
@@ -710,10 +711,9 @@ pub struct HeldTally {
 impl HeldTally {
     /// Counts a call on a record that holds this session.
     pub fn add(&mut self, session: &Session, is_sound: bool) {
-        let Ok(table) = admit_rows(&session.rows) else {
+        let Ok(Opinion { kind, .. }) = opinion_on(&session.rows) else {
             return;
         };
-        let kind = table.kind;
         if kind != Kind::Mixed && session.kind != Kind::Mixed {
             return;
         }

@@ -3,7 +3,7 @@
 
 use crate::hard::full_to;
 use crate::rng::Rng;
-use crate::table::{admit_rows, Row, HORIZON, ROW_LIMIT};
+use crate::table::{opinion_on, Row, HORIZON, ROW_LIMIT};
 use crate::tables::{full_rows, small_rows, urgent_rows, RowMaker};
 
 const LONGEST: u32 = HORIZON as u32;
@@ -112,7 +112,7 @@ pub fn late_overload_rows(rng: &mut Rng) -> Vec<Row> {
 
 /// Whether rows are refused with 3.
 fn is_overloaded(rows: &[Row]) -> bool {
-    admit_rows(rows).is_err_and(|refusal| refusal.number == 3)
+    opinion_on(rows).is_err_and(|refusal| refusal.number == 3)
 }
 
 /// Tables of one maker until one is overloaded.

@@ -4,7 +4,7 @@
 use std::fmt;
 
 use crate::table::{
-    admit_rows, busy_length, demand, first_overload, growth, Refusal, Row, HORIZON,
+    busy_length, demand, first_overload, growth, opinion_on, Refusal, Row, HORIZON,
 };
 use crate::tally::Among;
 
@@ -245,9 +245,9 @@ pub struct OverloadTally {
 }
 
 impl OverloadTally {
-    /// Counts a table that is to be admitted.
+    /// Counts a table on which an opinion is asked for.
     pub fn add(&mut self, rows: &[Row]) {
-        match admit_rows(rows) {
+        match opinion_on(rows) {
             Err(Refusal {
                 number: 3,
                 values: [tick, demand],

@@ -1,10 +1,22 @@
-//! Runs a program as a child process, input and output by pipe.
+//! Runs a program as a child process, input and output by pipe; and makes a program of a
+//! function from bytes to bytes.
 
-use std::io::{self, Read, Write};
+use std::io::{self, ErrorKind, Read, Write};
 use std::process::{Child, Command, ExitStatus, Stdio};
 use std::sync::mpsc;
 use std::thread;
 use std::time::{Duration, Instant};
+
+/// Reads standard input up to a limit, and writes what the function makes of it to
+/// standard output. A reader that leaves early is no error.
+pub fn serve(limit: usize, run: fn(&[u8]) -> Vec<u8>) -> io::Result<()> {
+    let mut input = Vec::new();
+    io::stdin().take(limit as u64).read_to_end(&mut input)?;
+    match io::stdout().write_all(&run(&input)) {
+        Err(error) if error.kind() == ErrorKind::BrokenPipe => Ok(()),
+        written => written,
+    }
+}
 
 /// A program that takes longer hangs.
 const TIME_LIMIT: Duration = Duration::from_secs(20);

@@ -4,13 +4,15 @@
 use crate::calls::{arrive_all, perform, Answer, Arrival, Call};
 use crate::meter::Question;
 use crate::session::{Choice, Job, Session, Slot};
-use crate::shuffle::{self, Reply, Session as Record};
-use crate::table::{admit, budget, Kind, Row, ROW_LIMIT};
+use crate::shuffle::{self, Judgement, Reply, Session as Record};
+use crate::table::{opinion, rows_of, Kind, Opinion, Refusal, ROW_LIMIT};
 
 /// A call of the library that gives one answer, with its arguments.
 #[derive(Clone, Debug)]
 pub enum Request {
-    Admit(Vec<u32>),
+    /// Of the opinion only the number and the two values are the answer here.
+    Opinion(Vec<u32>),
+    Start(Vec<u32>),
     Arrive(u64),
     Choose(Vec<u32>),
     Advance(u64),
@@ -21,20 +23,14 @@ impl Request {
     /// Makes the call.
     pub fn perform(&self, record: &mut Record) -> Reply {
         match self {
-            Request::Admit(words) => record.replace(words),
+            Request::Opinion(words) => reply_to(&shuffle::opinion(words)),
+            Request::Start(words) => record.restart(words),
             Request::Arrive(row) => record.arrive(*row),
             Request::Choose(words) => record.choose(words),
             Request::Advance(ticks) => record.advance(*ticks),
             Request::Finish => record.finish(),
         }
     }
-}
-
-/// The rows of words, three to a row.
-pub fn rows_of(words: &[u32]) -> Vec<Row> {
-    let rows = words.chunks_exact(3);
-    rows.map(|row| Row::from([row[0], row[1], row[2]]))
-        .collect()
 }
 
 /// The session that a record holds, unless its numbers are those of none. A
@@ -87,7 +83,8 @@ pub fn is_sound(record: &Record) -> bool {
 /// The answer that a call must give, and the record that it must leave.
 pub fn expected(record: &Record, request: &Request) -> (Reply, Record) {
     match request {
-        Request::Admit(words) => expected_admission(words),
+        Request::Opinion(words) => (reply_to(&judgement_of(&opinion(words))), *record),
+        Request::Start(words) => expected_start(record, &opinion(words), words),
         // The model's numbers are of 32 bits. Any greater row is not in the
         // table, as the greatest of 32 bits is not.
         Request::Arrive(row) => {
@@ -108,22 +105,52 @@ fn narrow(number: u64) -> u32 {
     u32::try_from(number).unwrap_or(u32::MAX)
 }
 
-fn expected_admission(words: &[u32]) -> (Reply, Record) {
-    match admit(words) {
-        Err(refusal) => {
-            let [first, second] = refusal.values;
-            let reply = reply(refusal.number, 0, first, second);
-            (reply, Record::NONE)
+/// The answer to a start and the record that it must leave, by the opinion on its words:
+/// a refused one leaves the record as it was.
+pub fn expected_start(
+    record: &Record,
+    opinion: &Result<Opinion, Refusal>,
+    words: &[u32],
+) -> (Reply, Record) {
+    let reply = reply_to(&judgement_of(opinion));
+    if opinion.is_err() {
+        return (reply, *record);
+    }
+    let mut fresh = Record {
+        kind: reply.first,
+        count: reply.second,
+        ..Record::NONE
+    };
+    fresh.words[..words.len()].copy_from_slice(words);
+    (reply, fresh)
+}
+
+/// The number and the two values of an opinion.
+fn reply_to(judgement: &Judgement) -> Reply {
+    Reply {
+        number: judgement.number,
+        used: 0,
+        first: judgement.first,
+        second: judgement.second,
+    }
+}
+
+/// The model's opinion as the library gives it.
+pub fn judgement_of(opinion: &Result<Opinion, Refusal>) -> Judgement {
+    let mut budgets = [0; ROW_LIMIT];
+    let (number, [first, second]) = match opinion {
+        Err(refusal) => (refusal.number, refusal.values),
+        Ok(opinion) => {
+            let count = opinion.budgets.len();
+            budgets[..count].copy_from_slice(&opinion.budgets);
+            (0, [opinion.kind as u64, count as u64])
         }
-        Ok(table) => {
-            let mut fresh = Record {
-                kind: table.kind as u64,
-                count: table.rows.len() as u64,
-                ..Record::NONE
-            };
-            fresh.words[..words.len()].copy_from_slice(words);
-            (reply(0, 0, fresh.kind, fresh.count), fresh)
-        }
+    };
+    Judgement {
+        number: u64::from(number),
+        first,
+        second,
+        budgets,
     }
 }
 
@@ -220,12 +247,6 @@ pub fn store(record: &mut Record, session: &Session) {
     let (row, left) = choice.unwrap_or_default();
     record.chosen = u64::from(row);
     record.span = left;
-}
-
-/// V of each row of a table; none if the table is refused.
-pub fn expected_budgets(words: &[u32]) -> Vec<i64> {
-    let rows = admit(words).map_or(Vec::new(), |table| table.rows);
-    (0..rows.len()).map(|row| budget(&rows, row)).collect()
 }
 
 /// The library's answer to a question, about these rows instead of its own.

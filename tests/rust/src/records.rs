@@ -3,12 +3,12 @@
 
 use std::array::from_fn;
 
-use crate::record::{expected_budgets, store, view};
+use crate::record::{store, view};
 use crate::rng::Rng;
 use crate::session::CLOCK_END;
 use crate::sessions::{random_table, sound_session};
 use crate::shuffle::{self, Arrival, Session as Record};
-use crate::table::{admit_rows, Row, HORIZON, ROW_LIMIT};
+use crate::table::{budget, opinion_on, rows_of, Row, HORIZON, ROW_LIMIT};
 
 /// A record of random bytes, or of random numbers of every size; often with a
 /// kind and a number of rows that can be.
@@ -45,7 +45,7 @@ fn set_rows(record: &mut Record, rows: &[Row]) -> u64 {
     for (words, row) in record.words.chunks_exact_mut(3).zip(rows) {
         words.copy_from_slice(&row.numbers());
     }
-    admit_rows(rows).expect("an admitted table").kind as u64
+    opinion_on(rows).expect("an admitted table").kind as u64
 }
 
 /// A record with a sound session. Half of them hold random numbers where no call
@@ -192,7 +192,7 @@ fn fill_budget(rng: &mut Rng, record: &mut Record) {
 /// V of a row of a sound record, and 0 if V is negative.
 fn positive_v(record: &Record, row: usize) -> u64 {
     let words = &record.words[..3 * record.count as usize];
-    expected_budgets(words)[row].max(0) as u64
+    budget(&rows_of(words), row).max(0) as u64
 }
 
 /// Changes a number of a row's job; or an arrival and its deadline both, so

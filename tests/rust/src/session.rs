@@ -1,6 +1,6 @@
 //! The session record and when it is sound.
 
-use crate::table::{admit_rows, budget, Kind, Row, Table, HORIZON};
+use crate::table::{budget, opinion, opinion_on, rows_of, Kind, Opinion, Refusal, Row, HORIZON};
 
 /// The last tick the clock may show.
 pub const CLOCK_END: u64 = 1 << 53;
@@ -39,14 +39,27 @@ pub struct Session {
     pub choice: Option<Choice>,
 }
 
+/// Starts the table of a slice that holds three numbers to a row: its fresh session, or
+/// the refusal of the opinion on it.
+pub fn start(words: &[u32]) -> Result<Session, Refusal> {
+    let opinion = opinion(words)?;
+    Ok(Session::fresh(rows_of(words), &opinion))
+}
+
+/// Starts the table of these rows, as if they were handed in as a slice.
+pub fn start_rows(rows: &[Row]) -> Result<Session, Refusal> {
+    let opinion = opinion_on(rows)?;
+    Ok(Session::fresh(rows.to_vec(), &opinion))
+}
+
 impl Session {
-    /// The fresh session of an admitted table.
-    pub fn new(table: Table) -> Self {
+    /// The fresh session of rows with the opinion on them.
+    pub fn fresh(rows: Vec<Row>, opinion: &Opinion) -> Self {
         Session {
             clock: 0,
-            slots: vec![Slot::default(); table.rows.len()],
-            rows: table.rows,
-            kind: table.kind,
+            slots: vec![Slot::default(); rows.len()],
+            rows,
+            kind: opinion.kind,
             choice: None,
         }
     }
@@ -138,7 +151,7 @@ impl Session {
     }
 
     fn kind_is_right(&self) -> bool {
-        admit_rows(&self.rows).is_ok_and(|table| table.kind == self.kind)
+        opinion_on(&self.rows).is_ok_and(|opinion| opinion.kind == self.kind)
     }
 
     /// Compared over i128, so that no value of the record can wrap.

@@ -1,8 +1,8 @@
 //! Random sound sessions of any shape, not only of those that calls lead to.
 
 use crate::rng::Rng;
-use crate::session::{Choice, Job, Session, Slot, CLOCK_END, IDLE};
-use crate::table::{admit_rows, Kind, Row, HORIZON};
+use crate::session::{start_rows, Choice, Job, Session, Slot, CLOCK_END, IDLE};
+use crate::table::{Kind, Row, HORIZON};
 use crate::tables::{
     admitted, close_rows, full_rows, light_rows, part_brittle_rows, roomy_rows, small_rows,
     staggered_rows, urgent_rows, RowMaker,
@@ -29,8 +29,7 @@ pub fn random_table(rng: &mut Rng) -> Vec<Row> {
 }
 
 pub fn sound_session(rng: &mut Rng) -> Session {
-    let table = admit_rows(&random_table(rng)).expect("an admitted table");
-    let mut session = Session::new(table);
+    let mut session = start_rows(&random_table(rng)).expect("an admitted table");
     session.clock = match rng.below(5) {
         0 => edge(rng, 0, 20),
         1 => edge(rng, 0, HORIZON),

@@ -2,8 +2,6 @@
 
 use std::time::{Duration, Instant};
 
-use crate::text::INPUT_LIMIT;
-
 /// Shortening ends after this much time.
 const MOST_TIME: Duration = Duration::from_secs(60);
 /// Longer inputs are shortened by lines alone.
@@ -15,16 +13,17 @@ struct Shrinker<F> {
     end: Instant,
 }
 
-/// The shortest input found that still has the property `keeps`.
-pub fn shrink(input: &[u8], keeps: impl FnMut(&[u8]) -> bool) -> Vec<u8> {
+/// The shortest input found that still has the property `keeps`; a program reads no more
+/// than `limit` bytes.
+pub fn shrink(input: &[u8], limit: usize, keeps: impl FnMut(&[u8]) -> bool) -> Vec<u8> {
     let mut shrinker = Shrinker {
         best: input.to_vec(),
         keeps,
         end: Instant::now() + MOST_TIME,
     };
     // Otherwise each line dropped would bring unread bytes into reach.
-    if input.len() > INPUT_LIMIT {
-        shrinker.accept(input[..INPUT_LIMIT].to_vec());
+    if input.len() > limit {
+        shrinker.accept(input[..limit].to_vec());
     }
     shrinker.cut_tail();
     loop {

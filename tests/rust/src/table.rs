@@ -1,4 +1,5 @@
-//! Task tables: rows, inversion budgets, demand bound, busy length, admission.
+//! Task tables: rows, inversion budgets, demand bound, busy length, and the opinion
+//! on a table.
 
 use std::iter::from_fn;
 
@@ -45,7 +46,7 @@ impl From<[u32; 3]> for Row {
     }
 }
 
-/// How a table was admitted; the number is the one shown in answers.
+/// What a table is admitted as; the number is the one shown in answers.
 #[derive(Clone, Copy, Debug, PartialEq, Eq)]
 pub enum Kind {
     Loose = 1,
@@ -53,7 +54,7 @@ pub enum Kind {
     Mixed = 3,
 }
 
-/// A refusal of admission: its number and two values.
+/// The refusal of a table: its number and two values.
 #[derive(Clone, Copy, Debug, PartialEq, Eq)]
 pub struct Refusal {
     pub number: u32,
@@ -69,74 +70,103 @@ impl Refusal {
     }
 }
 
-/// The rows and kind of an admitted table.
+/// The opinion on a table that is admitted: its kind, and V of each row.
 #[derive(Clone, Debug, PartialEq, Eq)]
-pub struct Table {
-    pub rows: Vec<Row>,
+pub struct Opinion {
     pub kind: Kind,
+    pub budgets: Vec<i64>,
+}
+
+/// The rows of a slice, three numbers to a row.
+pub fn rows_of(words: &[u32]) -> Vec<Row> {
+    let rows = words.chunks_exact(3);
+    rows.map(|row| Row::from([row[0], row[1], row[2]]))
+        .collect()
+}
+
+/// The slice of rows, three numbers to a row.
+pub fn words_of(rows: &[Row]) -> Vec<u32> {
+    rows.iter().flat_map(Row::numbers).collect()
 }
 
 /// A search for the least tick up to a limit whose demand exceeds it; it gives
 /// that demand too.
 pub type Search = fn(&[Row], u64) -> Option<(u64, u64)>;
 
-/// Admission of a slice that holds three numbers to a row.
-pub fn admit(numbers: &[u32]) -> Result<Table, Refusal> {
-    admit_by(numbers, first_overload)
+/// The opinion on a slice that holds three numbers to a row. It makes no session.
+pub fn opinion(words: &[u32]) -> Result<Opinion, Refusal> {
+    opinion_by(words, first_overload)
 }
 
-/// Admission with another search for the overload that refusal 3 names.
-pub fn admit_by(numbers: &[u32], search: Search) -> Result<Table, Refusal> {
-    let length = numbers.len();
+/// The opinion with another search for the overload that refusal 3 names.
+pub fn opinion_by(words: &[u32], search: Search) -> Result<Opinion, Refusal> {
+    check_length(words.len())?;
+    judge(&rows_of(words), search)
+}
+
+/// The opinion on rows, as if they were handed in as a slice.
+pub fn opinion_on(rows: &[Row]) -> Result<Opinion, Refusal> {
+    check_length(3 * rows.len())?;
+    judge(rows, first_overload)
+}
+
+/// Refusal 1, unless a slice of this length holds 1 to 16 rows.
+fn check_length(length: usize) -> Result<(), Refusal> {
     if length == 0 || length > 3 * ROW_LIMIT || !length.is_multiple_of(3) {
         return Err(Refusal::new(1, length as u64, 0));
     }
-    let rows: Vec<Row> = numbers
-        .chunks_exact(3)
-        .map(|row| Row::from([row[0], row[1], row[2]]))
-        .collect();
+    Ok(())
+}
+
+/// The opinion on 1 to 16 rows.
+fn judge(rows: &[Row], search: Search) -> Result<Opinion, Refusal> {
     if let Some(unlawful) = rows.iter().position(|row| !row.is_lawful()) {
         return Err(Refusal::new(2, unlawful as u64, 0));
     }
-    let kind = kind_of(&rows, search)?;
-    Ok(Table { rows, kind })
-}
-
-/// Admission of rows, as if they were handed in as a slice.
-pub fn admit_rows(rows: &[Row]) -> Result<Table, Refusal> {
-    let numbers: Vec<u32> = rows.iter().flat_map(Row::numbers).collect();
-    admit(&numbers)
-}
-
-/// The kind of lawful rows, or refusal 3 or 4.
-fn kind_of(rows: &[Row], search: Search) -> Result<Kind, Refusal> {
-    let kind = kind_by_budgets(rows);
-    if kind == Kind::Loose {
-        return Ok(kind);
+    let budgets = budgets(rows);
+    let kind = kind_of(&budgets);
+    if kind != Kind::Loose {
+        check_demand(rows, search)?;
     }
-    if let Some((tick, demand)) = search(rows, compared_range(rows)) {
+    Ok(Opinion { kind, budgets })
+}
+
+/// Refusal 3 or 4, unless the demand never exceeds the tick up to the busy length.
+fn check_demand(rows: &[Row], search: Search) -> Result<(), Refusal> {
+    let busy = busy_length(rows);
+    if let Some((tick, demand)) = search(rows, busy.unwrap_or(HORIZON)) {
         return Err(Refusal::new(3, tick, demand));
     }
-    match busy_length(rows) {
-        Some(_) => Ok(kind),
+    match busy {
+        Some(_) => Ok(()),
         None => Err(Refusal::new(4, HORIZON, 0)),
     }
 }
 
-/// The kind that lawful rows have if they are admitted: loose if no row is brittle,
-/// tight if every row is.
-pub fn kind_by_budgets(rows: &[Row]) -> Kind {
-    match brittle_rows(rows).len() {
+/// The kind that these V lead to if the table is admitted: loose if none is negative,
+/// tight if each is.
+fn kind_of(budgets: &[i64]) -> Kind {
+    match budgets.iter().filter(|v| **v < 0).count() {
         0 => Kind::Loose,
-        brittle if brittle == rows.len() => Kind::Tight,
+        brittle if brittle == budgets.len() => Kind::Tight,
         _ => Kind::Mixed,
     }
+}
+
+/// The kind that lawful rows have if they are admitted.
+pub fn kind_by_budgets(rows: &[Row]) -> Kind {
+    kind_of(&budgets(rows))
 }
 
 /// The rows of negative V; all rows must be lawful.
 pub fn brittle_rows(rows: &[Row]) -> Vec<usize> {
     let all = 0..rows.len();
     all.filter(|row| budget(rows, *row) < 0).collect()
+}
+
+/// V of each row; all rows must be lawful.
+pub fn budgets(rows: &[Row]) -> Vec<i64> {
+    (0..rows.len()).map(|row| budget(rows, row)).collect()
 }
 
 /// The inversion budget V of a row; all rows must be lawful.
@@ -230,7 +260,7 @@ pub fn overloads_by_scan(rows: &[Row], limit: u64) -> impl Iterator<Item = (u64,
 
 /// The kind of lawful rows by the definitions, each tick tried; none if the
 /// table is refused.
-pub fn admit_by_scan(rows: &[Row]) -> Option<Kind> {
+pub fn kind_by_scan(rows: &[Row]) -> Option<Kind> {
     let kind = kind_by_budgets(rows);
     if kind == Kind::Loose {
         return Some(kind);

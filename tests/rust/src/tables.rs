@@ -1,7 +1,7 @@
 //! Random task tables of every kind.
 
 use crate::rng::Rng;
-use crate::table::{admit_rows, Kind, Row, HORIZON, ROW_LIMIT};
+use crate::table::{opinion_on, Kind, Row, HORIZON, ROW_LIMIT};
 
 /// Makes a table at random.
 pub type RowMaker = fn(&mut Rng) -> Vec<Row>;
@@ -260,7 +260,7 @@ pub fn any_rows(rng: &mut Rng) -> Vec<Row> {
 pub fn admitted_as(rng: &mut Rng, make: RowMaker, kind: Kind) -> Vec<Row> {
     loop {
         let rows = admitted(rng, make);
-        if admit_rows(&rows).is_ok_and(|table| table.kind == kind) {
+        if opinion_on(&rows).is_ok_and(|opinion| opinion.kind == kind) {
             return rows;
         }
     }
@@ -270,7 +270,7 @@ pub fn admitted_as(rng: &mut Rng, make: RowMaker, kind: Kind) -> Vec<Row> {
 pub fn admitted(rng: &mut Rng, make: RowMaker) -> Vec<Row> {
     loop {
         let rows = make(rng);
-        if admit_rows(&rows).is_ok() {
+        if opinion_on(&rows).is_ok() {
             return rows;
         }
     }

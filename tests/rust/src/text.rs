@@ -4,7 +4,7 @@ use std::io::Write;
 
 use crate::calls::{perform_on_sound, Answer, Call};
 use crate::session::Session;
-use crate::table::{admit_rows, budget, Row, Table, ROW_LIMIT};
+use crate::table::{opinion_on, Opinion, Refusal, Row, ROW_LIMIT};
 
 /// How many bytes of input are read.
 pub const INPUT_LIMIT: usize = 65_536;
@@ -97,7 +97,7 @@ pub enum Outcome {
     Unreadable,
 }
 
-/// The state of the program once its table is admitted.
+/// The state of the program once its table is started.
 #[derive(Clone, Debug)]
 pub struct Machine {
     pub session: Session,
@@ -105,9 +105,10 @@ pub struct Machine {
 }
 
 impl Machine {
-    pub fn new(table: Table) -> Self {
+    /// The state at the start of a session.
+    pub fn new(session: Session) -> Self {
         Machine {
-            session: Session::new(table),
+            session,
             words: Vec::new(),
         }
     }
@@ -155,25 +156,29 @@ pub fn run_watched(input: &[u8], mut watch: impl FnMut(&Machine, Command)) -> Ve
 pub fn run_with(input: &[u8], execute: impl FnMut(&mut Machine, Command) -> Outcome) -> Vec<u8> {
     let mut output = Vec::new();
     let rows = leading_rows(input);
-    match admit_rows(&rows) {
-        Err(refusal) => {
-            let [first, second] = refusal.values;
-            print(&mut output, 0, 'M', refusal.number, first, second);
-        }
-        Ok(table) => {
-            print_table(&mut output, &table);
-            let rest = lines(input).zip(1..).skip(rows.len());
-            run_calls(&mut output, Machine::new(table), rest, execute);
-        }
+    let opinion = opinion_on(&rows);
+    print_opinion(&mut output, &opinion);
+    if let Ok(opinion) = opinion {
+        let rest = lines(input).zip(1..).skip(rows.len());
+        let machine = Machine::new(Session::fresh(rows, &opinion));
+        run_calls(&mut output, machine, rest, execute);
     }
     output
 }
 
-fn print_table(output: &mut Vec<u8>, table: &Table) {
-    let rows: &[Row] = &table.rows;
-    print(output, 0, 'M', 0, table.kind as u32, rows.len());
-    for row in 0..rows.len() {
-        print(output, 0, 'B', 0, row, budget(rows, row));
+/// The lines `M` and `B`.
+pub fn print_opinion(output: &mut Vec<u8>, opinion: &Result<Opinion, Refusal>) {
+    match opinion {
+        Err(Refusal { number, values }) => {
+            let [first, second] = values;
+            print(output, 0, 'M', *number, first, second);
+        }
+        Ok(Opinion { kind, budgets }) => {
+            print(output, 0, 'M', 0, *kind as u32, budgets.len());
+            for (row, v) in budgets.iter().enumerate() {
+                print(output, 0, 'B', 0, row, v);
+            }
+        }
     }
 }
 
@@ -196,11 +201,16 @@ fn run_calls<'a>(
                 print(output, clock, letter, answer.number, first, second);
             }
             Outcome::Unreadable => {
-                print(output, clock, '?', 13, line_number, 0);
+                print_unreadable(output, clock, line_number);
                 return;
             }
         }
     }
+}
+
+/// The line `?` of an unreadable line.
+pub fn print_unreadable(output: &mut Vec<u8>, clock: u64, line_number: u64) {
+    print(output, clock, '?', 13, line_number, 0);
 }
 
 fn print(

@@ -7,7 +7,7 @@ use shared::{accept, arrived, budgets, finish, fresh, job, waiting};
 use shuffle_model::calls::{candidates, perform, Call};
 use shuffle_model::rng::Rng;
 use shuffle_model::session::{Choice, Job, Session, Slot, CLOCK_END, IDLE};
-use shuffle_model::table::{admit, admit_by_scan, brittle_rows, budget, busy_length, Kind, Row};
+use shuffle_model::table::{brittle_rows, budget, busy_length, kind_by_scan, opinion, Kind, Row};
 use shuffle_model::tables::long_busy_rows;
 
 /// Row 0 is brittle. V is 12 − 10 − 4 − 30 = −32, 50 − 4 − 10 − 30 = 6 and
@@ -21,7 +21,7 @@ const CLOSE: [[u32; 3]; 4] = [[10, 100, 19], [5, 100, 22], [5, 100, 22], [1, 100
 fn kind_of(rows: &[[u32; 3]]) -> Kind {
     let kind = fresh(rows).kind;
     let rows: Vec<Row> = rows.iter().copied().map(Row::from).collect();
-    assert_eq!(admit_by_scan(&rows), Some(kind));
+    assert_eq!(kind_by_scan(&rows), Some(kind));
     kind
 }
 
@@ -62,7 +62,7 @@ fn the_tables_of_the_specification_are_mixed_or_tight() {
 #[test]
 fn an_overloaded_table_is_refused_though_some_v_is_not_negative() {
     // V of row 2 is 40 − 13 = 27. At 5 the demand is 6.
-    let refusal = admit(&[3, 50, 5, 3, 50, 5, 7, 50, 40]).unwrap_err();
+    let refusal = opinion(&[3, 50, 5, 3, 50, 5, 7, 50, 40]).unwrap_err();
     assert_eq!((refusal.number, refusal.values), (3, [5, 6]));
 }
 

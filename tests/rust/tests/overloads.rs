@@ -9,7 +9,7 @@ use shuffle_model::overloaded::{late_overload_rows, overloaded_rows, shorten};
 use shuffle_model::rng::Rng;
 use shuffle_model::specification::{plain, OVERLOADS};
 use shuffle_model::table::{
-    admit, admit_rows, budget, busy_length, busy_length_by_scan, compared_range, demand, growth,
+    budget, busy_length, busy_length_by_scan, compared_range, demand, growth, opinion, opinion_on,
     overloads_by_scan, Kind, Refusal, Row, HORIZON,
 };
 use shuffle_model::tables::{
@@ -24,7 +24,7 @@ fn rows(numbers: &[[u32; 3]]) -> Vec<Row> {
 
 /// What refusal 3 names; none of a table that is not refused with 3.
 fn named(rows: &[Row]) -> Option<(u64, u64)> {
-    match admit_rows(rows) {
+    match opinion_on(rows) {
         Err(Refusal {
             number: 3,
             values: [tick, demand],
@@ -113,8 +113,8 @@ fn lower_numbers_come_first() {
     };
     // 3 at tick 2 alone, then with a word too many and with an unlawful row.
     assert_eq!(named(&rows(&[[2, 9, 2], [1, 9, 2]])), Some((2, 3)));
-    assert_eq!(admit(&[2, 9, 2, 1, 9, 2, 1]), refusal(1, 7));
-    assert_eq!(admit(&[2, 9, 2, 1, 9, 2, 3, 5, 2]), refusal(2, 2));
+    assert_eq!(opinion(&[2, 9, 2, 1, 9, 2, 1]), refusal(1, 7));
+    assert_eq!(opinion(&[2, 9, 2, 1, 9, 2, 3, 5, 2]), refusal(2, 2));
     // No busy length, but a demand of 4 at 3: 3 and not 4.
     let table = rows(&[[1, 1, 1], [1, 5, 3]]);
     assert_eq!(busy_length(&table), None);
@@ -151,7 +151,7 @@ fn a_planner_sees_the_tick_rise_until_the_refusal_goes_away() {
     let table = |run| rows(&[[run, 20, 4], [3, 20, 6], [4, 20, 9]]);
     assert_eq!(named(&table(4)), Some((6, 7)));
     assert_eq!(named(&table(3)), Some((9, 10)));
-    assert_eq!(admit_rows(&table(2)).unwrap().kind, Kind::Mixed);
+    assert_eq!(opinion_on(&table(2)).unwrap().kind, Kind::Mixed);
     // That at 999,999 is 499,999 + c. With 500,000 there is no overload up to the
     // horizon, but no busy length either; with 499,999 it is 999,998.
     let table = |run| rows(&[[1, 2, 2], [run, 999_999, 999_999]]);
@@ -159,11 +159,11 @@ fn a_planner_sees_the_tick_rise_until_the_refusal_goes_away() {
     assert_eq!(named(&table(500_001)), Some((999_999, 1_000_000)));
     let values = [HORIZON, 0];
     assert_eq!(
-        admit_rows(&table(500_000)),
+        opinion_on(&table(500_000)),
         Err(Refusal { number: 4, values })
     );
     assert_eq!(busy_length(&table(499_999)), Some(999_998));
-    assert_eq!(admit_rows(&table(499_999)).unwrap().kind, Kind::Mixed);
+    assert_eq!(opinion_on(&table(499_999)).unwrap().kind, Kind::Mixed);
 }
 
 #[test]
@@ -250,7 +250,7 @@ fn it_is_the_least_of_all_ticks_and_not_only_of_those_compared() {
     for _ in 0..2_500 {
         let makers: [RowMaker; 4] = [small_rows, full_rows, urgent_rows, overloaded_rows];
         let table = rng.pick(&makers)(&mut rng);
-        let (place, limit) = match admit_rows(&table) {
+        let (place, limit) = match opinion_on(&table) {
             Ok(admitted) => (
                 admitted.kind as usize,
                 3 * compared_range(&table).min(1_000),

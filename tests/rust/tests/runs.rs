@@ -106,7 +106,7 @@ impl Ledger {
 
 /// After an accepted finish: each job of later deadline whose row is not brittle has
 /// gained all of the unused ticks, since the limit of its budget cuts nothing in
-/// a run that began with an admission; and no other job has gained any.
+/// a run that began with a start; and no other job has gained any.
 fn check_gains(before: &Session, after: &Session, [row, unused]: [u64; 2]) {
     let finished = before.job(row as u32).expect("a finished job waited");
     let slots = before.slots.iter().zip(&after.slots);

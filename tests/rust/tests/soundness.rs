@@ -2,13 +2,13 @@
 
 use shuffle_model::calls::{perform, Call};
 use shuffle_model::rng::Rng;
-use shuffle_model::session::{Choice, Job, Session, Slot, CLOCK_END, IDLE};
-use shuffle_model::table::{admit, Kind, Row, HORIZON};
+use shuffle_model::session::{start, Choice, Job, Session, Slot, CLOCK_END, IDLE};
+use shuffle_model::table::{Kind, Row, HORIZON};
 
 /// At 5: row 0 arrived at 2, row 1 at 4 and is chosen. V is 5 and 8, and D − C
 /// is 8 and 12.
 fn loose() -> Session {
-    let mut session = Session::new(admit(&[2, 10, 10, 3, 20, 15]).unwrap());
+    let mut session = start(&[2, 10, 10, 3, 20, 15]).unwrap();
     session.clock = 5;
     session.slots = vec![slot(12, 12, 2, 4), slot(24, 19, 3, 8)];
     session.choice = Some(Choice { row: 1, left: 2 });
@@ -25,7 +25,7 @@ fn slot(next: u64, due: u64, left: u64, budget: i64) -> Slot {
 
 /// At 5: both rows arrived at 5 and the head is chosen.
 fn tight() -> Session {
-    let mut session = Session::new(admit(&[2, 4, 4, 3, 6, 6]).unwrap());
+    let mut session = start(&[2, 4, 4, 3, 6, 6]).unwrap();
     assert_eq!(session.kind, Kind::Tight);
     session.clock = 5;
     session.slots = vec![slot(9, 9, 2, 0), slot(11, 11, 3, 0)];

@@ -2,9 +2,9 @@
 
 use shuffle_model::calls::candidates;
 use shuffle_model::driver::table_text;
-use shuffle_model::session::{Job, Session, Slot, IDLE};
+use shuffle_model::session::{start, Job, Session, Slot, IDLE};
 use shuffle_model::specification::{draws, gifts, listing, mixed, plain, ties, EXAMPLES};
-use shuffle_model::table::{admit, busy_length, demand, overloads_by_scan, Refusal, Row};
+use shuffle_model::table::{busy_length, demand, opinion, overloads_by_scan, Refusal, Row};
 use shuffle_model::text::run;
 
 fn rows(numbers: &[[u32; 3]]) -> Vec<Row> {
@@ -78,9 +78,9 @@ fn length_of_the_slice_comes_first() {
             number: 1,
             values: [length as u64, 0],
         };
-        assert_eq!(admit(&vec![0; length]), Err(refusal));
+        assert_eq!(opinion(&vec![0; length]), Err(refusal));
     }
-    assert_eq!(admit(&[0; 48]).map_err(|refusal| refusal.number), Err(2));
+    assert_eq!(opinion(&[0; 48]).map_err(|refusal| refusal.number), Err(2));
 }
 
 #[test]
@@ -90,14 +90,14 @@ fn first_unlawful_row_is_named() {
         values: [1, 0],
     };
     // The lawful row alone with itself would be overloaded.
-    assert_eq!(admit(&[2, 3, 2, 3, 5, 2, 0, 0, 0, 2, 3, 2]), Err(refusal));
+    assert_eq!(opinion(&[2, 3, 2, 3, 5, 2, 0, 0, 0, 2, 3, 2]), Err(refusal));
 }
 
 /// A sound session with jobs of the given deadlines and budgets, all waiting;
 /// all arrived on tick 0.
 fn waiting(jobs: &[(u32, i64)]) -> Session {
     let numbers: Vec<u32> = jobs.iter().flat_map(|(due, _)| [1, 100, *due]).collect();
-    let mut session = Session::new(admit(&numbers).unwrap());
+    let mut session = start(&numbers).unwrap();
     for (slot, (due, budget)) in session.slots.iter_mut().zip(jobs) {
         let job = Job {
             due: u64::from(*due),
@@ -131,8 +131,5 @@ fn candidates_stand_in_order() {
         [1, 2, 0]
     );
     assert_eq!(candidates(&waiting(&[(20, 3), (10, 0), (10, 1)])), [1]);
-    assert_eq!(
-        candidates(&Session::new(admit(&[1, 1, 1]).unwrap())),
-        [IDLE]
-    );
+    assert_eq!(candidates(&start(&[1, 1, 1]).unwrap()), [IDLE]);
 }

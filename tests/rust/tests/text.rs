@@ -80,7 +80,7 @@ fn lines_need_letter_fields_and_newline() {
 }
 
 #[test]
-fn admission_comes_before_the_first_other_line() {
+fn the_opinion_comes_before_the_first_other_line() {
     assert_eq!(output(""), "0 M 1 0 0/");
     assert_eq!(output("/"), "0 M 1 0 0/");
     assert_eq!(output("T 1 4 4"), "0 M 1 0 0/");

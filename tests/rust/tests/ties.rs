@@ -1,14 +1,14 @@
 //! Equal deadlines go by who came first, in sessions of any sound content.
 
 use shuffle_model::calls::{candidates, perform, Call};
-use shuffle_model::session::{Job, Session, Slot, CLOCK_END, IDLE};
-use shuffle_model::table::{admit, Kind, Row, HORIZON};
+use shuffle_model::session::{start, Job, Session, Slot, CLOCK_END, IDLE};
+use shuffle_model::table::{Kind, Row, HORIZON};
 
 /// A sound session in which a job of each row waits for one deadline, with the
 /// given budget.
 fn tied(clock: u64, due: u64, jobs: &[([u32; 3], i64)]) -> Session {
     let numbers: Vec<u32> = jobs.iter().flat_map(|(row, _)| *row).collect();
-    let mut session = Session::new(admit(&numbers).unwrap());
+    let mut session = start(&numbers).unwrap();
     session.clock = clock;
     for (slot, (row, budget)) in session.slots.iter_mut().zip(jobs) {
         *slot = waiting_slot(Row::from(*row), due, *budget);

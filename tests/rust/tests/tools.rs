@@ -5,18 +5,18 @@ use shuffle_model::calls::{candidates, limit, perform, Call};
 use shuffle_model::draws::{DrawTally, Drawn, DrawnChoices, Draws};
 use shuffle_model::gifts::{shares, FinishTally, GiftTally, Gifts, Share};
 use shuffle_model::hard::{full_to, full_to_one, mutant, utilisation, with_longer_deadlines};
-use shuffle_model::inputs::random_input;
+use shuffle_model::inputs::{random_input, KINDS};
 use shuffle_model::mixed::{HeldTally, Mixed, MixedCalls, MixedTally, TableTally};
 use shuffle_model::overloaded::{late_overload_rows, overloaded_rows};
 use shuffle_model::overloads::OverloadTally;
 use shuffle_model::rng::Rng;
-use shuffle_model::session::{Choice, Job, Session, IDLE};
+use shuffle_model::session::{start, Choice, Job, Session, IDLE};
 use shuffle_model::sessions::sound_session;
 use shuffle_model::shrink::shrink;
 use shuffle_model::specification::{draws, gifts, listing, mixed, plain, ties};
-use shuffle_model::table::{admit, Kind, Row, ROW_LIMIT};
+use shuffle_model::table::{Kind, Row, ROW_LIMIT};
 use shuffle_model::tally::{Among, Tally};
-use shuffle_model::text::{run, run_watched};
+use shuffle_model::text::{run, run_watched, INPUT_LIMIT};
 use shuffle_model::ties::{TieTally, TiedChoices, Ties};
 use shuffle_model::words::{more_words, next_word};
 
@@ -30,7 +30,10 @@ fn shrinking_finds_the_shortest_input() {
             .zip(finish)
             .is_some_and(|(choice, finish)| choice < finish)
     };
-    assert_eq!(shrink(input.as_bytes(), has_choice_before_finish), b"GF");
+    assert_eq!(
+        shrink(input.as_bytes(), INPUT_LIMIT, has_choice_before_finish),
+        b"GF"
+    );
 }
 
 #[test]
@@ -39,12 +42,12 @@ fn shrinking_lowers_numbers() {
         let text = std::str::from_utf8(text).unwrap();
         text.parse::<u64>().is_ok_and(|number| number > 6)
     };
-    assert_eq!(shrink(b"4294967295", is_above_six), b"7");
+    assert_eq!(shrink(b"4294967295", INPUT_LIMIT, is_above_six), b"7");
 }
 
 #[test]
 fn equal_seeds_give_equal_inputs() {
-    let input = |seed, case| random_input(&mut Rng::for_case(seed, case));
+    let input = |seed, case| random_input(KINDS, &mut Rng::for_case(seed, case));
     assert_eq!(input(1, 2), input(1, 2));
     assert_ne!(input(1, 2), input(1, 3));
     assert_ne!(input(1, 2), input(2, 2));
@@ -348,7 +351,7 @@ fn sorts_of(session: Option<&Session>, records: &[(u64, u64)]) -> Vec<usize> {
 
 #[test]
 fn batches_count_by_what_they_do() {
-    let session = Session::new(admit(&[2, 10, 10, 3, 20, 15]).unwrap());
+    let session = start(&[2, 10, 10, 3, 20, 15]).unwrap();
     let choice = Some(Choice { row: IDLE, left: 9 });
     let choosing = Session {
         choice,
@@ -418,7 +421,7 @@ const DRAWS: [&str; 14] = [
 
 /// A fresh session of these rows at which a job of each has arrived.
 fn arrived(rows: &[[u32; 3]]) -> Session {
-    let mut session = Session::new(admit(&rows.concat()).unwrap());
+    let mut session = start(&rows.concat()).unwrap();
     for row in 0..rows.len() as u32 {
         assert_eq!(perform(&mut session, Call::Arrive(row)).number, 0);
     }
@@ -780,7 +783,7 @@ fn tables_count_by_kind_and_brittle_rows() {
     assert_eq!(gaps.len(), 1 + 15);
     assert_eq!(
         gaps[0],
-        "0 of 5 inputs admit a mixed table of 16 rows (fewer than one in 40)"
+        "0 of 5 inputs start a mixed table of 16 rows (fewer than one in 40)"
     );
     assert_eq!(
         gaps[15],
@@ -811,7 +814,7 @@ fn mixed_sorts(session: &Session, words: &[u32]) -> Vec<String> {
 /// is brittle and may come at `next`, so for 12 ticks later. V is −32, 6 and 54.
 fn brittle_to_come(clock: u64, next: u64, due: [u64; 2]) -> Session {
     let rows = [[10, 100, 12], [4, 100, 50], [30, 200, 112]];
-    let mut session = Session::new(admit(&rows.concat()).unwrap());
+    let mut session = start(&rows.concat()).unwrap();
     session.clock = clock;
     session.slots[0].next = next;
     for (row, (due, [left, budget])) in (1..).zip(due.into_iter().zip([[4, 6], [30, 54]])) {
@@ -927,7 +930,7 @@ fn mixed_choices_count_by_their_brittle_jobs() {
 #[test]
 fn mixed_finishes_count_by_what_they_give() {
     let sorts = |rows: &[[u32; 3]], clock: u64, arrivals: &[u32], row: u32| {
-        let mut session = Session::new(admit(&rows.concat()).unwrap());
+        let mut session = start(&rows.concat()).unwrap();
         perform(&mut session, Call::Arrive(row));
         session.clock = clock;
         for row in arrivals {
@@ -1023,13 +1026,13 @@ fn held_sorts(session: &Session) -> Vec<String> {
 #[test]
 fn records_count_by_what_they_hold() {
     let sound = "are sound and mixed";
-    let start = brittle_to_come(20, 30, [40, 43]);
-    assert_eq!(held_sorts(&start), [sound]);
+    let base = brittle_to_come(20, 30, [40, 43]);
+    assert_eq!(held_sorts(&base), [sound]);
     let choosing = |row, left| {
         let choice = Some(Choice { row, left });
         held_sorts(&Session {
             choice,
-            ..start.clone()
+            ..base.clone()
         })
     };
     assert_eq!(choosing(1, 4), [sound]);
@@ -1073,7 +1076,7 @@ fn records_count_by_what_they_hold() {
         called(brittle_to_come(20, 30, [40, 43]), Kind::Loose),
         ["are unsound and called loose"]
     );
-    let fresh = |rows: &[[u32; 3]]| Session::new(admit(&rows.concat()).unwrap());
+    let fresh = |rows: &[[u32; 3]]| start(&rows.concat()).unwrap();
     let mixed = fresh(&[[1, 2, 2], [2, 4, 4]]);
     assert_eq!(called(mixed, Kind::Tight), ["are unsound and called tight"]);
     let other = "are called mixed though loose or tight";

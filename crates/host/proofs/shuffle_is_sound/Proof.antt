@@ -3,7 +3,7 @@ use mir.Syntax.{w32}
 use contract.Running.{givenOf, tables, tablesOf}
 use denote.Triple.Spec.{tripleOf}
 use denote.Triple.Table.{entered, cited}
-use Rattle.host.specs.Numbers.{soundNumber}
+use Rattle.host.specs.Sound.{soundNumber}
 use Rattle.host.proofs.sound_number.Symbol as g-def
 use Rattle.host.proofs.sound_number.Symbol.{name as #g}
 use Rattle.host.proofs.sound_number.Met as g-thm

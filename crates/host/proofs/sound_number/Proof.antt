@@ -1,6 +1,6 @@
 -- `sound_number` meets its contract. Assumes nothing.
 use borrow.Author.Needs.{needs}
-use Rattle.host.specs.Numbers.{sound-cases}
+use Rattle.host.specs.Sound.{sound-cases}
 use Rattle.host.proofs.sound_number.Statement.{statement}
 use Rattle.host.proofs.sound_number.Tie as tie
 

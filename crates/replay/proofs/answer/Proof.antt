@@ -1,7 +1,7 @@
 -- `replay::answer` meets its contract. Assumes nothing.
 use lib.Seq.{length-take-le}
 use mathlib.Core.Path.{sym}
-use Rattle.transcript.specs.Entry.{written-within}
+use Rattle.report.specs.Whole.{filled-within}
 use borrow.Author.Needs.{needs}
 use Rattle.replay.proofs.answer.Statement.{statement}
 use Rattle.replay.proofs.answer.Tie as tie
@@ -10,10 +10,10 @@ transcribe-requires : tie.Need-transcribe-requires
 transcribe-requires c κs = search needs
 
 slice-reshare-prefix-write-all : tie.Need-slice-reshare-prefix-write-all
-slice-reshare-prefix-write-all c = search (needs, written-within)
+slice-reshare-prefix-write-all c = search (needs, filled-within)
 
 slice-aggregate-write-all : tie.Need-slice-aggregate-write-all
-slice-aggregate-write-all c = sym (length-take-le _ _ (search (needs, written-within)))
+slice-aggregate-write-all c = sym (length-take-le _ _ (search (needs, filled-within)))
 
 write-all-requires : tie.Need-write-all-requires
 write-all-requires c κs = search needs

@@ -2,7 +2,7 @@
 use Prim.Native.Nat.{_≤_, _-_}
 use mathlib.Core.Path.{_≡_}
 use borrow.Author.Needs.{needs}
-use Rattle.session.specs.Admit.{wordsTo, words-laws}
+use Rattle.session.specs.Start.{wordsTo, words-laws}
 use Rattle.session.proofs.copied.Statement.{statement}
 use Rattle.session.proofs.copied.Tie as tie
 

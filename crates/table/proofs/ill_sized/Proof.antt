@@ -1,6 +1,6 @@
 -- `table::ill_sized` meets its contract. Assumes nothing.
 use borrow.Author.Needs.{needs}
-use Rattle.table.specs.Assess.{length-cases}
+use Rattle.table.specs.Opinion.{length-cases}
 use Rattle.table.proofs.ill_sized.Statement.{statement}
 use Rattle.table.proofs.ill_sized.Tie as tie
 

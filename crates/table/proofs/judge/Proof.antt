@@ -1,7 +1,7 @@
 -- `table::judge` meets its contract. Assumes nothing.
 use borrow.Author.Needs.{needs}
 use Rattle.table.specs.Overload.{found-exceeds}
-use Rattle.table.specs.Assess.{judge-cases}
+use Rattle.table.specs.Opinion.{judge-cases}
 use Rattle.table.proofs.judge.Statement.{statement}
 use Rattle.table.proofs.judge.Tie as tie
 

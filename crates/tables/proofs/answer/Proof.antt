@@ -4,8 +4,8 @@ use Rattle.table.specs.Theorems.{shown-fit}
 use Rattle.tables.proofs.answer.Statement.{statement}
 use Rattle.tables.proofs.answer.Tie as tie
 
-assess-requires : tie.Need-assess-requires
-assess-requires c κs = search needs
+opinion-requires : tie.Need-opinion-requires
+opinion-requires c κs = search needs
 
 shown-requires : tie.Need-shown-requires
 shown-requires c κs = search needs
@@ -38,7 +38,7 @@ pub answer-spec : {M : Type 1} → statement M
 answer-spec =
     tie.close
     (tie.spec
-    assess-requires
+    opinion-requires
     shown-requires
     put-requires
     put-requires-2

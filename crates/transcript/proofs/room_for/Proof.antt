@@ -1,6 +1,5 @@
 -- `transcript::room_for` meets its contract. Assumes nothing.
-use Rattle.transcript.specs.Entry.{room-of-least}
-use borrow.Author.Needs.{needs}
+use Rattle.report.specs.Whole.{room-of-least}
 use borrow.Author.Needs.{needs}
 use Rattle.transcript.proofs.room_for.Statement.{statement}
 use Rattle.transcript.proofs.room_for.Tie as tie

@@ -1,5 +1,6 @@
-//! Times a program against the model on the heaviest inputs, and keeps the inputs
-//! in a folder for other measurements.
+//! Times a program against the model: `shuffle` on the heaviest inputs, or `opinions`, with
+//! `--set opinions`, on files of 16-row tables. It keeps the inputs in a folder for other
+//! measurements.
 
 use std::fs;
 use std::io::{self, Write};
@@ -8,29 +9,47 @@ use std::process::{self, Stdio};
 use std::time::Instant;
 
 use shuffle_model::calls::{candidates, lengths, limit, WORDS};
-use shuffle_model::driver::Driver;
+use shuffle_model::driver::{table_text, Driver};
+use shuffle_model::opinions;
 use shuffle_model::options::{fail, Options};
 use shuffle_model::session::IDLE;
+use shuffle_model::sixteen::{tables, CLASSES};
 use shuffle_model::table::{Kind, Row};
 use shuffle_model::text::{leading_rows, run, Command, INPUT_LIMIT};
 
 fn main() {
-    let options = Options::read(&["--program", "--model", "--inputs", "--runs"]);
+    let options = Options::read(&["--program", "--model", "--inputs", "--runs", "--set"]);
     let folder = Path::new(options.required("--inputs"));
-    let programs = ["--program", "--model"].map(|name| options.required(name));
-    let runs: usize = options.number("--runs", 21);
-
+    let (model, inputs): (Model, _) = match options.text("--set").unwrap_or("shuffle") {
+        "shuffle" => (run, inputs()),
+        "opinions" => (opinions::run, desks()),
+        set => fail(&format!("--set: {set} is no set of inputs")),
+    };
+    let bench = Bench {
+        programs: ["--program", "--model"].map(|name| options.required(name)),
+        model,
+        runs: options.number("--runs", 21),
+    };
     println!("| Input | Lines | Program ms | Model ms | Ratio | Ratio without start |");
     println!("|---|---:|---:|---:|---:|---:|");
-    let start = median_times(&programs, &[], runs);
+    let start = bench.median_times(&[]);
     print_row("empty: the cost of a start", 0, start, None);
-    for (name, input) in inputs() {
-        check(name, &input);
+    for (name, input) in inputs {
         keep(folder, name, &input);
         let lines = input.iter().filter(|byte| **byte == b'\n').count();
-        let times = median_times(&programs, &input, runs);
-        print_row(name, lines, times, Some(start));
+        print_row(name, lines, bench.median_times(&input), Some(start));
     }
+}
+
+type Model = fn(&[u8]) -> Vec<u8>;
+/// An input and its name.
+type Named = (&'static str, Vec<u8>);
+
+struct Bench<'a> {
+    /// The program and the model's.
+    programs: [&'a str; 2],
+    model: Model,
+    runs: usize,
 }
 
 fn print_row(name: &str, lines: usize, times: [f64; 2], start: Option<[f64; 2]>) {
@@ -44,25 +63,27 @@ fn print_row(name: &str, lines: usize, times: [f64; 2], start: Option<[f64; 2]>)
     );
 }
 
-/// The median wall time of each program in ms, the two run alternately.
-fn median_times(programs: &[&str; 2], input: &[u8], runs: usize) -> [f64; 2] {
-    let expected = run(input);
-    let mut times = [Vec::new(), Vec::new()];
-    for _ in 0..runs {
-        for (program, times) in programs.iter().zip(&mut times) {
-            let start = Instant::now();
-            let output = output_of(program, input)
-                .unwrap_or_else(|error| fail(&format!("{program} does not run: {error}")));
-            times.push(start.elapsed().as_secs_f64() * 1_000.0);
-            if output != expected {
-                fail(&format!("{program}: the output is not the model's"));
+impl Bench<'_> {
+    /// The median wall time of each program in ms, the two run alternately.
+    fn median_times(&self, input: &[u8]) -> [f64; 2] {
+        let expected = (self.model)(input);
+        let mut times = [Vec::new(), Vec::new()];
+        for _ in 0..self.runs {
+            for (program, times) in self.programs.iter().zip(&mut times) {
+                let start = Instant::now();
+                let output = output_of(program, input)
+                    .unwrap_or_else(|error| fail(&format!("{program} does not run: {error}")));
+                times.push(start.elapsed().as_secs_f64() * 1_000.0);
+                if output != expected {
+                    fail(&format!("{program}: the output is not the model's"));
+                }
             }
         }
+        times.map(|mut times| {
+            times.sort_by(f64::total_cmp);
+            times[times.len() / 2]
+        })
     }
-    times.map(|mut times| {
-        times.sort_by(f64::total_cmp);
-        times[times.len() / 2]
-    })
 }
 
 /// Runs a program without further threads, whose wake-ups would blur the time.
@@ -71,7 +92,7 @@ fn output_of(program: &str, input: &[u8]) -> io::Result<Vec<u8>> {
         .stdin(Stdio::piped())
         .stdout(Stdio::piped())
         .spawn()?;
-    // The input fits into the pipe, so this cannot wait for the output.
+    // All input is read before anything is written, so this cannot wait for the output.
     let mut stdin = child.stdin.take().expect("it was asked for");
     stdin.write_all(input)?;
     drop(stdin);
@@ -110,7 +131,30 @@ fn build(rows: &[Row], kind: Kind, step: fn(&mut Driver)) -> Vec<u8> {
     text
 }
 
-fn inputs() -> Vec<(&'static str, Vec<u8>)> {
+/// 1,000 tables of 16 rows, of each class.
+fn desks() -> Vec<Named> {
+    let desks = CLASSES
+        .iter()
+        .map(|class| (class.name, desk(&tables(class, 1_000))));
+    desks.collect()
+}
+
+fn desk(tables: &[Vec<Row>]) -> Vec<u8> {
+    let tables: Vec<Vec<u8>> = tables.iter().map(|rows| table_text(rows)).collect();
+    let text = tables.join(&b'\n');
+    assert!(text.len() <= opinions::INPUT_LIMIT);
+    text
+}
+
+fn inputs() -> Vec<Named> {
+    let inputs = shuffle_inputs();
+    for (name, input) in &inputs {
+        check(name, input);
+    }
+    inputs
+}
+
+fn shuffle_inputs() -> Vec<Named> {
     // Different deadlines, so that each inversion is charged to many jobs.
     let loose: Vec<Row> = (0..16)
         .map(|row| Row::from([20, 3_000 + 50 * row, 3_000 + 50 * row]))

@@ -1,7 +1,8 @@
-//! Writes stored cases: `cases DIR` makes DIR/stdin and DIR/stdout.
+//! Writes stored cases: `cases DIR` makes DIR/stdin and DIR/stdout, with cases for
+//! `shuffle`, and `cases --opinions DIR` makes them with one input for `opinions`.
 //!
-//! In `stdin` each case is a line with its length in bytes, then the bytes.
-//! In `stdout` each case is the model's output, then a line `--`.
+//! Of `shuffle`, in `stdin` each case is a line with its length in bytes, then the
+//! bytes. In `stdout` each case is the model's output, then a line `--`.
 
 use std::fs;
 use std::io;
@@ -16,14 +17,16 @@ use shuffle_model::inputs::{
     short_limits, short_run, short_ties, small_run, ODD_LINES, ODD_NUMBERS, SPECIALS,
 };
 use shuffle_model::mixed::Mixed;
+use shuffle_model::opinions;
 use shuffle_model::options::fail;
 use shuffle_model::overloaded::late_overload_rows;
 use shuffle_model::overloads::OverloadTally;
+use shuffle_model::plans::stored;
 use shuffle_model::rng::Rng;
 use shuffle_model::specification::{
     draws, gifts, listing, mixed, plain, ties, EXAMPLES, OVERLOADS,
 };
-use shuffle_model::table::{admit_rows, Row};
+use shuffle_model::table::{opinion_on, Row};
 use shuffle_model::tally::Among;
 use shuffle_model::text::{leading_rows, run, run_watched};
 use shuffle_model::ties::Ties;
@@ -36,6 +39,8 @@ const LONGEST_RANDOM_CASE: usize = 500;
 const OVERLOADED_CASES: usize = 60;
 const LONGEST_OVERLOAD: usize = 120;
 const LONGEST_STDIN: usize = 60_000;
+/// The same of the input for `opinions`.
+const LONGEST_DESK: usize = 16_384;
 /// So many cases must show that arrival decides a tie against the row number.
 const LEAST_TIES: usize = 60;
 /// So many cases must show in an answer that a finish gave to a later job.
@@ -48,9 +53,25 @@ const LEAST_LIMITS: usize = 25;
 
 fn main() -> io::Result<()> {
     let arguments: Vec<String> = std::env::args().skip(1).collect();
-    let [directory] = arguments.as_slice() else {
-        fail("usage: cases DIR");
+    let arguments: Vec<&str> = arguments.iter().map(String::as_str).collect();
+    let (directory, (stdin, stdout)) = match arguments[..] {
+        [directory] => (directory, shuffle_cases()),
+        ["--opinions", directory] => (directory, opinion_cases()),
+        _ => fail("usage: cases [--opinions] DIR"),
     };
+    fs::write(Path::new(directory).join("stdin"), stdin)?;
+    fs::write(Path::new(directory).join("stdout"), stdout)
+}
+
+/// The input for `opinions`, and what is printed of it.
+fn opinion_cases() -> (Vec<u8>, Vec<u8>) {
+    let (stdin, stdout) = stored();
+    assert!(stdin.len() < LONGEST_DESK, "{} bytes", stdin.len());
+    assert_eq!(opinions::run(&stdin), stdout, "the model prints otherwise");
+    (stdin, stdout)
+}
+
+fn shuffle_cases() -> (Vec<u8>, Vec<u8>) {
     let cases = all_cases();
     let ties = cases.iter().filter(|case| shows_a_tie(case)).count();
     assert!(ties >= LEAST_TIES, "{ties} cases show a tie");
@@ -64,8 +85,7 @@ fn main() -> io::Result<()> {
     assert!(gaps.is_empty(), "{gaps:?}");
     let (stdin, stdout) = store(&cases);
     assert!(stdin.len() < LONGEST_STDIN, "{} bytes", stdin.len());
-    fs::write(Path::new(directory).join("stdin"), stdin)?;
-    fs::write(Path::new(directory).join("stdout"), stdout)
+    (stdin, stdout)
 }
 
 fn store(cases: &[Vec<u8>]) -> (Vec<u8>, Vec<u8>) {
@@ -187,7 +207,7 @@ fn overloaded_cases(rng: &mut Rng, count: usize) -> Vec<Vec<u8>> {
 }
 
 fn is_refused(case: &[u8]) -> bool {
-    admit_rows(&leading_rows(case)).is_err()
+    opinion_on(&leading_rows(case)).is_err()
 }
 
 /// Each kind of damage to some short runs.

@@ -1,7 +1,7 @@
 //! Compares the library with the model, call by call, on records of any
-//! content: the answer, soundness and every byte of the record; and of a batch,
-//! which lets a list of rows arrive in one call, the whole list. The meter, which
-//! has no record, is compared by `meters`.
+//! content: the answer, soundness and every byte of the record; of a start also the
+//! whole opinion on its table; and of a batch, which lets a list of rows arrive in one
+//! call, the whole list. The meter, which has no record, is compared by `meters`.
 
 use std::process::exit;
 use std::time::Instant;
@@ -14,7 +14,7 @@ use shuffle_model::options::Options;
 use shuffle_model::overloaded::{late_overload_rows, overloaded_rows, shorten};
 use shuffle_model::overloads::OverloadTally;
 use shuffle_model::record::{
-    answered, expected, expected_batch, expected_budgets, is_sound, rows_of, view, Request,
+    answered, expected, expected_batch, expected_start, is_sound, judgement_of, view, Request,
 };
 use shuffle_model::records::{
     displace, make_ready, random_list, random_record, random_row, sound_record,
@@ -23,9 +23,12 @@ use shuffle_model::rng::Rng;
 use shuffle_model::runs::{random_command, Style};
 use shuffle_model::session::CLOCK_END;
 use shuffle_model::sessions::random_table;
-use shuffle_model::shuffle::{budget, Arrival, Reply, Session as Record};
-use shuffle_model::table::Row;
-use shuffle_model::tables::{any_rows, long_busy_rows, RowMaker};
+use shuffle_model::shuffle::{self, number, Arrival, Reply, Session as Record};
+use shuffle_model::starts::StartTally;
+use shuffle_model::table::{opinion, rows_of, words_of};
+use shuffle_model::tables::{
+    any_rows, full_rows, long_busy_rows, part_brittle_rows, roomy_rows, unlawful_rows, RowMaker,
+};
 use shuffle_model::tally::Among;
 use shuffle_model::text::{Command, Machine};
 use shuffle_model::ties::TiedChoices;
@@ -36,13 +39,15 @@ const DEFAULT_SEED: u64 = 20_250_301;
 /// The answer numbers of the calls on records: 0 to 12.
 const NUMBERS: usize = 13;
 /// From this many calls on, each sort of tie must have been reached, and each
-/// sort of finish, of batch, of draw, of overload, and of what has to do with brittle
-/// rows often enough.
+/// sort of finish, of batch, of draw, of overload, of start, and of what has to do with
+/// brittle rows often enough.
 const FULL_CALLS: u64 = 1_000_000;
 /// Most calls of a history.
 const STEPS: u32 = 400;
-/// Most admissions of a planner.
+/// Most starts of a planner.
 const PLANS: u32 = 30;
+/// Of the steps of a history, one in so many is a start of another table.
+const START_STEP: usize = 60;
 /// Of the steps of a history, one in so many is a batch.
 const BATCH_STEP: usize = 10;
 /// Of the choices of a history, one in so many gets a list of words near the limits
@@ -79,8 +84,10 @@ fn main() {
         overloads: OverloadTally::default(),
         mixed: MixedCalls::default(),
         held: HeldTally::default(),
+        starts: StartTally::default(),
         one_by_one: 0,
     };
+    test.no_session();
     test.long_lists();
     while test.calls() < calls {
         test.round();
@@ -99,6 +106,7 @@ fn main() {
     gaps.extend(test.overloads.gaps(Among::Calls(test.calls())));
     gaps.extend(test.mixed.gaps(Among::Calls(test.calls())));
     gaps.extend(test.held.gaps(test.calls()));
+    gaps.extend(test.starts.gaps(test.calls()));
     if calls >= FULL_CALLS && !gaps.is_empty() {
         println!("FAILED: {}", gaps.join(", "));
         exit(1);
@@ -120,6 +128,7 @@ struct Test {
     overloads: OverloadTally,
     mixed: MixedCalls,
     held: HeldTally,
+    starts: StartTally,
     /// Batches whose rows also arrived one by one, on a copy.
     one_by_one: u64,
 }
@@ -173,11 +182,11 @@ impl Test {
     }
 
     /// Each of the four calls on its own copy of a record, often a batch, and now
-    /// and then an admission over it.
+    /// and then a start over it.
     fn each_call(&mut self, source: Source, record: &Record) {
         let mut requests = four_calls(&mut self.rng, record);
         if self.rng.chance(1, 8) {
-            requests.push(Request::Admit(random_words(&mut self.rng)));
+            requests.push(Request::Start(random_words(&mut self.rng)));
         }
         for request in requests {
             let mut copy = *record;
@@ -197,7 +206,7 @@ impl Test {
         let (mut record, steps) = if self.rng.chance(1, 4) {
             (sound_record(&mut self.rng), STEPS)
         } else {
-            self.admission()
+            self.start()
         };
         let styles: [fn(&mut Rng) -> Style; 3] = [Style::random, Style::giving, Style::drawing];
         let style = self.rng.pick(&styles)(&mut self.rng);
@@ -210,12 +219,14 @@ impl Test {
         self.each_call(Source::History, &record);
     }
 
-    /// A planner, who shortens runs until a table is not refused any more.
+    /// A planner, who shortens runs until a table is not refused any more. Half the
+    /// time a session goes on meanwhile.
     fn planner(&mut self) {
-        let mut record = random_record(&mut self.rng);
+        let makers: [fn(&mut Rng) -> Record; 2] = [random_record, sound_record];
+        let mut record = self.rng.pick(&makers)(&mut self.rng);
         let mut rows = overloaded_rows(&mut self.rng);
         for _ in 0..PLANS {
-            let request = Request::Admit(words_of(&rows));
+            let request = Request::Start(words_of(&rows));
             let reply = self.check(Source::History, &mut record, &request);
             if reply.is_accepted() || !shorten(&mut self.rng, &mut rows) {
                 return;
@@ -223,18 +234,34 @@ impl Test {
         }
     }
 
-    /// An admission alone, of a table that takes the model long.
+    /// A start alone, of a table that takes the model long.
     fn late_overload(&mut self) {
         let mut record = random_record(&mut self.rng);
         let words = words_of(&late_overload_rows(&mut self.rng));
-        self.check(Source::History, &mut record, &Request::Admit(words));
+        self.check(Source::History, &mut record, &Request::Start(words));
+    }
+
+    /// The record that a refused start by value gives: every call on it answers 5, and a
+    /// refused start leaves it as it is.
+    fn no_session(&mut self) {
+        let calls = four_calls(&mut self.rng, &Record::NONE).into_iter();
+        let calls = calls.map(|call| (call, number::UNSOUND));
+        let starts = [
+            (Request::Start(vec![3, 5, 2]), number::BAD_ROW),
+            (Request::Start(Vec::new()), number::BAD_LENGTH),
+        ];
+        for (request, number) in calls.chain(starts) {
+            let mut record = Record::NONE;
+            let reply = self.check(Source::Bytes, &mut record, &request);
+            assert_eq!((reply.number, record), (number, Record::NONE));
+        }
     }
 
     /// A million words for a choice between three: every one is passed over, or
     /// every one but the last.
     fn long_lists(&mut self) {
         let mut record = random_record(&mut self.rng);
-        let table = Request::Admit(vec![2, 10, 10, 3, 20, 15]);
+        let table = Request::Start(vec![2, 10, 10, 3, 20, 15]);
         for request in [table, Request::Arrive(0), Request::Arrive(1)] {
             self.check(Source::History, &mut record, &request);
         }
@@ -247,9 +274,9 @@ impl Test {
         }
     }
 
-    /// The record of an admission, and how many steps may follow: few if the
-    /// busy length is long, since the model is slow then.
-    fn admission(&mut self) -> (Record, u32) {
+    /// The record that a start leaves, and how many steps may follow: few if the busy
+    /// length is long, since the model is slow then.
+    fn start(&mut self) -> (Record, u32) {
         let rng = &mut self.rng;
         let mut record = random_record(rng);
         let (words, steps) = match rng.below(32) {
@@ -257,7 +284,7 @@ impl Test {
             3..10 => (random_words(rng), STEPS),
             _ => (words_of(&random_table(rng)), STEPS),
         };
-        self.check(Source::History, &mut record, &Request::Admit(words));
+        self.check(Source::History, &mut record, &Request::Start(words));
         (record, steps)
     }
 
@@ -268,6 +295,11 @@ impl Test {
         };
         if self.rng.chance(1, BATCH_STEP) {
             self.batch(Source::History, record);
+            return true;
+        }
+        if self.rng.chance(1, START_STEP) {
+            let words = self.other_words();
+            self.check(Source::History, record, &Request::Start(words));
             return true;
         }
         let words = std::mem::take(queue);
@@ -296,6 +328,15 @@ impl Test {
         true
     }
 
+    /// The words of a table to start within a history, mostly an overloaded one, so that
+    /// the history goes on.
+    fn other_words(&mut self) -> Vec<u32> {
+        match self.rng.below(4) {
+            0 => random_words(&mut self.rng),
+            _ => words_of(&overloaded_rows(&mut self.rng)),
+        }
+    }
+
     /// Makes a call and compares all that it leads to; a disagreement ends the
     /// process.
     fn check(&mut self, source: Source, record: &mut Record, request: &Request) -> Reply {
@@ -303,9 +344,7 @@ impl Test {
         let was_sound = is_sound(&before);
         let (expected, after) = expected(&before, request);
         let reply = request.perform(record);
-        let agrees = reply == expected
-            && records_agree((&before, was_sound), record, &after)
-            && budgets_agree(request);
+        let agrees = reply == expected && records_agree((&before, was_sound), record, &after);
         if !agrees {
             self.print_before(source, &before);
             print_replies(request, reply, expected);
@@ -318,11 +357,35 @@ impl Test {
             self.held.add(&session, was_sound);
         }
         match request {
-            Request::Admit(words) if reply.number >= 3 => self.overloads.add(&rows_of(words)),
+            Request::Start(words) => self.check_opinion(words, was_sound),
             _ if reply.is_accepted() => self.count(&before, request),
             _ => {}
         }
         reply
+    }
+
+    /// Asks for the opinion on a table that was started, and starts it by value, on no
+    /// record; a disagreement ends the process.
+    fn check_opinion(&mut self, words: &[u32], was_sound: bool) {
+        let opinion = opinion(words);
+        let judgements = [shuffle::opinion(words), judgement_of(&opinion)];
+        let starts = [
+            Record::start(words),
+            expected_start(&Record::NONE, &opinion, words),
+        ];
+        if judgements[0] != judgements[1] || starts[0] != starts[1] {
+            println!("DISAGREEMENT, after {} calls", self.calls());
+            println!("words   {words:?}");
+            for (place, name) in ["library", "model"].into_iter().enumerate() {
+                println!("{name}: {:?}", judgements[place]);
+                println!("{name} starts {:?}", starts[place]);
+            }
+            exit(1);
+        }
+        if opinion.as_ref().is_err_and(|refusal| refusal.number >= 3) {
+            self.overloads.add(&rows_of(words));
+        }
+        self.starts.add(&opinion, was_sound);
     }
 
     /// Counts an accepted call.
@@ -407,7 +470,7 @@ impl Test {
         let sources = SOURCES.map(|(source, name)| format!("{name} {}", self.calls_of(source)));
         let answers = (0..NUMBERS).map(|number| format!("{number}:{}", self.count_of(number)));
         format!(
-            "{} calls agree ({}; {} on sound records); answers {}; {}; {}; {}; {}; {}; {}; {}; the rows of {} of \
+            "{} calls agree ({}; {} on sound records); answers {}; {}; {}; {}; {}; {}; {}; {}; {}; the rows of {} of \
             the batches also arrived one by one",
             self.calls(),
             sources.join(", "),
@@ -419,6 +482,7 @@ impl Test {
             self.overloads,
             self.mixed,
             self.held,
+            self.starts,
             self.batches,
             self.one_by_one
         )
@@ -454,13 +518,17 @@ fn words_for_choice(rng: &mut Rng, record: &Record) -> Vec<u32> {
     }
 }
 
-fn words_of(rows: &[Row]) -> Vec<u32> {
-    rows.iter().flat_map(Row::numbers).collect()
-}
-
-/// The words of a table, admitted or not, now and then of a wrong length.
+/// The words of a table, admitted or refused, now and then of a wrong length.
 fn random_words(rng: &mut Rng) -> Vec<u32> {
-    let makers: [RowMaker; 2] = [any_rows, overloaded_rows];
+    let makers: [RowMaker; 7] = [
+        any_rows,
+        overloaded_rows,
+        overloaded_rows,
+        part_brittle_rows,
+        roomy_rows,
+        full_rows,
+        unlawful_rows,
+    ];
     let mut words = words_of(&rng.pick(&makers)(rng));
     match rng.below(16) {
         0 => words.resize(rng.below(60), 1),
@@ -468,20 +536,6 @@ fn random_words(rng: &mut Rng) -> Vec<u32> {
         _ => {}
     }
     words
-}
-
-/// Whether the library gives V of each row of an admission, and 0 past them.
-fn budgets_agree(request: &Request) -> bool {
-    let Request::Admit(words) = request else {
-        return true;
-    };
-    let budgets = expected_budgets(words);
-    let past = budgets.len() as u64;
-    let rows_agree = (0..).zip(&budgets).all(|(row, v)| budget(words, row) == *v);
-    rows_agree
-        && [past, 16, 1 << 32, u64::MAX]
-            .iter()
-            .all(|row| budget(words, *row) == 0)
 }
 
 /// Whether library and model leave the same record, and agree on soundness; the
@@ -506,13 +560,6 @@ fn print_replies(request: &Request, library: Reply, model: Reply) {
     println!("call    {request:?}");
     println!("library: {library:?}");
     println!("model: {model:?}");
-    if let Request::Admit(words) = request {
-        let budgets: Vec<i64> = (0..18).map(|row| budget(words, row)).collect();
-        println!(
-            "V: library {budgets:?}, model {:?}",
-            expected_budgets(words)
-        );
-    }
 }
 
 /// Prints each record of a batch as it was lent, and as each side leaves it; and

@@ -1,7 +1,7 @@
 //! Searches for tables on which a checked call takes long. Each such call
 //! first checks the record, and that decides the table anew; so the time of
-//! the check is what counts. And for tables whose admission takes long before
-//! it is refused with 3: it names the first overload, which a check does not.
+//! the check is what counts. And for tables on which the opinion takes long before
+//! it is refusal 3: that names the first overload, which a check does not.
 
 use std::fmt;
 use std::hint::black_box;
@@ -12,10 +12,10 @@ use shuffle_model::hard::{
     full_to, full_to_one, mutant, utilisation, with_longer_deadlines, with_more_work,
 };
 use shuffle_model::options::Options;
-use shuffle_model::record::{expected, Request};
+use shuffle_model::record::{expected_start, judgement_of};
 use shuffle_model::rng::Rng;
-use shuffle_model::shuffle::{number, Session as Record};
-use shuffle_model::table::{busy_length, kind_by_budgets, Row};
+use shuffle_model::shuffle::{self, number, Judgement, Session as Record};
+use shuffle_model::table::{busy_length, kind_by_budgets, opinion, words_of, Row};
 
 const DEFAULT_SEED: u64 = 20_250_301;
 /// The tables reported of each class.
@@ -40,7 +40,7 @@ const LINES: [f64; 6] = [10.0, 30.0, 100.0, 300.0, 1_000.0, 2_000.0];
 const ROOMY: f64 = 0.999 + 1e-12;
 /// The limit of roomy tables in us.
 const ROOMY_LIMIT: f64 = 100.0;
-/// The limit of an admission that is refused with 3, in us: about twice the longest
+/// The limit of an opinion that is refusal 3, in us: about twice the longest
 /// that was found (tests/worst).
 const OVERLOADED_LIMIT: f64 = 3_500.0;
 /// So many times a full table is given more work, to start at what takes longest.
@@ -59,12 +59,12 @@ const CLASSES: [(Class, &str); 4] = [
     (Class::Roomy, "admitted, utilisation up to 0.999"),
     (Class::Full, "admitted, utilisation above 0.999"),
     (Class::Refused, "refused, in a record that a host made up"),
-    (Class::Overloaded, "admission that is refused with 3"),
+    (Class::Overloaded, "opinion that is refusal 3"),
 ];
 
 impl Class {
-    /// Whether the time of the admission is what the class is about.
-    fn is_about_admission(self) -> bool {
+    /// Whether the time of the opinion is what the class is about.
+    fn is_about_opinion(self) -> bool {
         self == Class::Overloaded
     }
 
@@ -116,7 +116,7 @@ struct Trial {
     class: Class,
     record: Record,
     check: f64,
-    admission: f64,
+    opinion: f64,
     /// The climb that found it.
     climb: u64,
 }
@@ -130,8 +130,8 @@ struct Findings {
     above: [u64; LINES.len()],
     /// The tables that take longest, longest first, each of another climb.
     kept: Vec<Trial>,
-    /// The table with the longest admission, where the class is about checks.
-    admission: Option<Trial>,
+    /// The table with the longest opinion, where the class is about checks.
+    opinion: Option<Trial>,
     /// The time spent on climbs in this class.
     spent: Duration,
 }
@@ -146,9 +146,9 @@ impl Findings {
         self.kept.get(KEPT - 1).map_or(0.0, Trial::time)
     }
 
-    fn admission_bar(&self) -> f64 {
-        let admission = self.admission.as_ref();
-        admission.map_or(0.0, |trial| trial.admission)
+    fn opinion_bar(&self) -> f64 {
+        let opinion = self.opinion.as_ref();
+        opinion.map_or(0.0, |trial| trial.opinion)
     }
 
     fn add(&mut self, trial: &Trial) {
@@ -156,8 +156,8 @@ impl Findings {
         for (above, line) in self.above.iter_mut().zip(LINES) {
             *above += u64::from(trial.time() >= line);
         }
-        if !trial.class.is_about_admission() && trial.admission > self.admission_bar() {
-            self.admission = Some(trial.clone());
+        if !trial.class.is_about_opinion() && trial.opinion > self.opinion_bar() {
+            self.opinion = Some(trial.clone());
         }
         if trial.time() > self.bar() {
             self.kept.push(trial.clone());
@@ -183,17 +183,17 @@ impl Findings {
         for trial in &mut self.kept {
             trial.read(bar);
         }
-        if let Some(trial) = &mut self.admission {
-            trial.read_admission(bar);
+        if let Some(trial) = &mut self.opinion {
+            trial.read_opinion(bar);
         }
         self.sort();
     }
 
     /// What is wrong with the tables kept.
     fn failure(&self, limit: f64) -> Option<String> {
-        let mut kept = self.kept.iter().chain(&self.admission);
+        let mut kept = self.kept.iter().chain(&self.opinion);
         if !kept.all(Trial::is_right) {
-            return Some("the model answers the admission of a table otherwise".to_string());
+            return Some("the model has another opinion on a table".to_string());
         }
         let time = self.highest();
         (time >= limit).then(|| format!("{time:.1} us, and the limit is {limit} us"))
@@ -208,87 +208,89 @@ impl fmt::Display for Findings {
         }
         write!(f, " the worst:")?;
         for trial in &self.kept {
-            let what = if trial.class.is_about_admission() {
-                "admission"
+            let what = if trial.class.is_about_opinion() {
+                "opinion"
             } else {
                 "check"
             };
             write!(f, "\n  {what} {:.1} us: {trial}", trial.time())?;
         }
-        if let Some(trial) = &self.admission {
-            write!(f, "\n  admission {:.1} us: {trial}", trial.admission)?;
+        if let Some(trial) = &self.opinion {
+            write!(f, "\n  opinion {:.1} us: {trial}", trial.opinion)?;
         }
         Ok(())
     }
 }
 
 impl Trial {
-    /// The table with one reading of its admission and none of the check. What an
+    /// The table with one reading of its opinion and none of the check. What an
     /// overloaded table counts as depends on the class that is sought.
     fn new(rows: Vec<Row>, climb: u64, sought: Class) -> Self {
         let words = words_of(&rows);
         let start = Instant::now();
-        let (reply, record) = Record::admit(&words);
-        let admission = us(start.elapsed());
-        let (class, record) = match reply.number {
-            number::ACCEPTED if utilisation(&rows) <= ROOMY => (Class::Roomy, record),
-            number::ACCEPTED => (Class::Full, record),
-            number::OVERLOAD if sought == Class::Overloaded => (Class::Overloaded, record),
-            _ => (Class::Refused, made_up(&rows)),
+        let judgement = shuffle::opinion(&words);
+        let opinion = us(start.elapsed());
+        let class = match judgement.number {
+            number::ACCEPTED if utilisation(&rows) <= ROOMY => Class::Roomy,
+            number::ACCEPTED => Class::Full,
+            number::OVERLOAD if sought == Class::Overloaded => Class::Overloaded,
+            _ => Class::Refused,
+        };
+        let record = match class {
+            Class::Refused => made_up(&rows),
+            _ => Record::start(&words).1,
         };
         Trial {
             rows,
             class,
             record,
             check: f64::INFINITY,
-            admission,
+            opinion,
             climb,
         }
     }
 
     /// The time that its class is about.
     fn time(&self) -> f64 {
-        if self.class.is_about_admission() {
-            self.admission
+        if self.class.is_about_opinion() {
+            self.opinion
         } else {
             self.check
         }
     }
 
     fn read(&mut self, bar: f64) {
-        if self.class.is_about_admission() {
-            self.read_admission(bar);
+        if self.class.is_about_opinion() {
+            self.read_opinion(bar);
         } else {
             self.read_check(bar);
         }
     }
 
-    /// Whether the library answers the admission as the model does.
+    /// Whether opinion and start of the library are the model's.
     fn is_right(&self) -> bool {
         let words = words_of(&self.rows);
-        let (reply, _) = Record::admit(&words);
-        let (expected, _) = expected(&Record::NONE, &Request::Admit(words));
-        reply == expected && reply.is_accepted() == self.class.is_admitted()
+        let judgement = shuffle::opinion(&words);
+        let opinion = opinion(&words);
+        judgement == judgement_of(&opinion)
+            && Record::start(&words) == expected_start(&Record::NONE, &opinion, &words)
+            && judgement.is_admitted() == self.class.is_admitted()
     }
 
     fn read_check(&mut self, bar: f64) {
         let time = least_time(bar, || self.record.is_sound() == self.class.is_admitted());
-        let time = time.unwrap_or_else(|| panic!("soundness is not admission: {self}"));
+        let time = time.unwrap_or_else(|| panic!("soundness is not as the opinion: {self}"));
         self.check = self.check.min(time);
     }
 
-    fn read_admission(&mut self, bar: f64) {
+    fn read_opinion(&mut self, bar: f64) {
         let words = words_of(&self.rows);
         let time = least_time(bar, || {
-            Record::admit(&words).0.is_accepted() == self.class.is_admitted()
+            shuffle::opinion(&words).is_admitted() == self.class.is_admitted()
         });
-        let time = time.unwrap_or_else(|| panic!("admission changes: {self}"));
-        self.admission = self.admission.min(time);
+        let time = time.unwrap_or_else(|| panic!("the opinion changes: {self}"));
+        self.opinion = self.opinion.min(time);
     }
-}
-
-fn words_of(rows: &[Row]) -> Vec<u32> {
-    rows.iter().flat_map(Row::numbers).collect()
 }
 
 /// The record of a refused table, as a host could make it up (§5.1): of the
@@ -312,8 +314,8 @@ impl fmt::Display for Trial {
             None => write!(f, "no busy length, ")?,
         }
         if self.class == Class::Overloaded {
-            let (reply, _) = Record::admit(&words_of(&self.rows));
-            write!(f, "demand {} at tick {}, ", reply.second, reply.first)?;
+            let Judgement { first, second, .. } = shuffle::opinion(&words_of(&self.rows));
+            write!(f, "demand {second} at tick {first}, ")?;
         }
         write!(f, "{} rows", self.rows.len())?;
         for row in &self.rows {
@@ -430,10 +432,10 @@ impl Search {
         first
     }
 
-    /// A full table, sometimes the one with the longest admission, with a little
+    /// A full table, sometimes the one with the longest opinion, with a little
     /// more to do: of some such tables the one that takes longest.
     fn overloaded(&mut self, climb: u64) -> Option<Trial> {
-        let slowest = self.findings[Class::Full as usize].admission.clone();
+        let slowest = self.findings[Class::Full as usize].opinion.clone();
         let full = match slowest {
             Some(full) if self.rng.chance(1, 4) => full,
             _ => self.first(Class::Full)?,
@@ -486,9 +488,9 @@ impl Search {
     fn try_rows(&mut self, rows: Vec<Row>, climb: u64, bar: f64, sought: Class) -> Trial {
         let mut trial = Trial::new(rows, climb, sought);
         let findings = &mut self.findings[trial.class as usize];
-        let admission_bar = findings.admission_bar();
-        if !trial.class.is_about_admission() && trial.admission >= admission_bar {
-            trial.read_admission(admission_bar);
+        let opinion_bar = findings.opinion_bar();
+        if !trial.class.is_about_opinion() && trial.opinion >= opinion_bar {
+            trial.read_opinion(opinion_bar);
         }
         trial.read(findings.bar().min(bar));
         findings.add(&trial);

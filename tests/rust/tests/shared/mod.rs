@@ -4,8 +4,7 @@
 
 use shuffle_model::calls::{perform, Answer, Call};
 use shuffle_model::meter::Question;
-use shuffle_model::session::{Choice, Job, Session, Slot};
-use shuffle_model::table::admit;
+use shuffle_model::session::{start, Choice, Job, Session, Slot};
 
 /// C, T, D of four rows. With every D below every T, V of a row is its D less
 /// the C of all rows, 14: V is 6, 16, 26, 36. D − C is 16, 27, 38, 45. When all
@@ -14,7 +13,7 @@ use shuffle_model::table::admit;
 pub const FOUR: [[u32; 3]; 4] = [[4, 100, 20], [3, 100, 30], [2, 100, 40], [5, 100, 50]];
 
 pub fn fresh(rows: &[[u32; 3]]) -> Session {
-    Session::new(admit(&rows.concat()).unwrap())
+    start(&rows.concat()).unwrap()
 }
 
 /// A session of these rows at tick 0 at which a job of each has just arrived.

@@ -1,6 +1,6 @@
 -- `session::Session::fresh` meets its contract. Assumes nothing.
 use borrow.Author.Needs.{needs}
-use Rattle.session.specs.Admit.{fresh-is}
+use Rattle.session.specs.Start.{fresh-is}
 use Rattle.session.proofs.Session.fresh.Statement.{statement}
 use Rattle.session.proofs.Session.fresh.Tie as tie
 

@@ -98,11 +98,23 @@ same-length-3 c = search needs
 returns-3 : tie.Need-returns-3 Inv-loop μ-loop
 returns-3 c = search (needs, play-laws)
 
+enum-told-3 : tie.Need-enum-told-3 Inv-loop μ-loop
+enum-told-3 c = search needs
+
+refuse-requires-3 : tie.Need-refuse-requires-3 Inv-loop μ-loop
+refuse-requires-3 c κs = search (needs, play-laws)
+
 same-length-4 : tie.Need-same-length-4 Inv-loop μ-loop
 same-length-4 c = search needs
 
 returns-4 : tie.Need-returns-4 Inv-loop μ-loop
 returns-4 c = search (needs, play-laws)
+
+same-length-5 : tie.Need-same-length-5 Inv-loop μ-loop
+same-length-5 c = search needs
+
+returns-5 : tie.Need-returns-5 Inv-loop μ-loop
+returns-5 c = search (needs, play-laws)
 
 pub play-spec : {M : Type 1} → statement M
 play-spec =
@@ -137,5 +149,9 @@ play-spec =
     refuse-requires-2
     same-length-3
     returns-3
+    enum-told-3
+    refuse-requires-3
     same-length-4
-    returns-4)
+    returns-4
+    same-length-5
+    returns-5)

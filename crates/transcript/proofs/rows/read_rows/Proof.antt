@@ -19,8 +19,8 @@ abbrev μ-loop : tie.MeasureT-loop
 μ-loop text t₀ t = 16 - t .count
 
 -- the variants past the first are none of them a row
-not-row : (x : Line) → OneOf (1 ∷ 2 ∷ 3 ∷ []) (tagOf the-type x) → (c p d : ℕ) → x ≡ Row c p d → ⊥
-not-row x h c p d e = miss (1 ∷ 2 ∷ 3 ∷ []) 0 tt (rw e at h)
+not-row : (x : Line) → OneOf (1 ∷ 2 ∷ 3 ∷ 4 ∷ []) (tagOf the-type x) → (c p d : ℕ) → x ≡ Row c p d → ⊥
+not-row x h c p d e = miss (1 ∷ 2 ∷ 3 ∷ 4 ∷ []) 0 tt (rw e at h)
 
 loop-holds : tie.Need-loop-holds Inv-loop μ-loop
 loop-holds c = search (needs, table-laws)

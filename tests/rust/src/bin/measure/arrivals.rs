@@ -7,8 +7,9 @@ use shuffle_model::calls;
 use shuffle_model::record::view;
 use shuffle_model::session::Session;
 use shuffle_model::shuffle::{Arrival, Session as Record};
+use shuffle_model::table::words_of;
 
-use crate::cases::{table, words_of, Shape};
+use crate::cases::{table, Shape};
 use crate::count::{functions, of_one_call, repeat, COUNTED};
 use crate::sides::{library_arrive_all, library_arrive_each, model_arrive_all};
 use crate::time::{medians, side, BATCH, BATCHES};
@@ -35,7 +36,7 @@ struct Sides {
 
 fn sides(shape: Shape, count: u32) -> Sides {
     let rows = table(shape, count).expect("there is such a table");
-    let (reply, record) = Record::admit(&words_of(&rows));
+    let (reply, record) = Record::start(&words_of(&rows));
     assert!(reply.is_accepted(), "{rows:?}");
     let rows = 0..u64::from(count);
     Sides {

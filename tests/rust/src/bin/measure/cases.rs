@@ -2,7 +2,7 @@
 
 use shuffle_model::record::Request;
 use shuffle_model::shuffle::Session as Record;
-use shuffle_model::table::{busy_length, Kind, Row};
+use shuffle_model::table::{busy_length, words_of, Kind, Row};
 
 /// The kinds of tables, by what the check of soundness has to do.
 #[derive(Clone, Copy, Debug, PartialEq, Eq)]
@@ -23,14 +23,20 @@ pub const SHAPES: [(Shape, &str); 4] = [
     (Shape::Mixed, "mixed"),
 ];
 
-pub const CALLS: [&str; 6] = [
-    "admit",
+pub const CALLS: [&str; 7] = [
+    "opinion",
+    "start",
     "arrive",
     "choose",
     "advance",
     "finish",
     "finish head",
 ];
+
+/// Whether a call takes a table and no session, so that it has nothing to check.
+pub fn takes_table(call: &str) -> bool {
+    matches!(call, "opinion" | "start")
+}
 
 /// Choices from lists of words, of which some or all are passed over.
 pub const CHOICES: [&str; 3] = [
@@ -91,11 +97,6 @@ fn mixed_row(row: u32, half: u32) -> Row {
     }
 }
 
-/// The words of rows, three to a row.
-pub fn words_of(rows: &[Row]) -> Vec<u32> {
-    rows.iter().flat_map(Row::numbers).collect()
-}
-
 /// The busy length of a shape's table.
 pub fn busy(shape: Shape, count: u32) -> u64 {
     table(shape, count)
@@ -117,7 +118,7 @@ impl Case {
     pub fn new(rows: &[Row], call: &str) -> Case {
         let words = words_of(rows);
         let last = rows.len() as u64 - 1;
-        let (reply, mut record) = Record::admit(&words);
+        let (reply, mut record) = Record::start(&words);
         assert!(reply.is_accepted(), "{rows:?}");
         let waiting = if call == "arrive" { last } else { last + 1 };
         for row in 0..waiting {
@@ -125,7 +126,8 @@ impl Case {
         }
         let draws = words_for(call, last as u32);
         let request = match call {
-            "admit" => Request::Admit(words),
+            "opinion" => Request::Opinion(words),
+            "start" => Request::Start(words),
             "arrive" => Request::Arrive(last),
             "choose" => Request::Choose(draws),
             _ if CHOICES.contains(&call) => {
@@ -148,7 +150,7 @@ impl Case {
         Case { request, record }
     }
 
-    /// The kind that the record's table was admitted with.
+    /// Whether the kind of the record's table is that of a shape.
     pub fn kind_is(&self, shape: Shape) -> bool {
         let kind = match shape {
             Shape::Loose => Kind::Loose,

@@ -5,9 +5,7 @@ use std::iter::repeat_n;
 
 use shuffle_model::rng::Rng;
 use shuffle_model::shuffle::Session as Record;
-use shuffle_model::table::Row;
-
-use crate::cases::words_of;
+use shuffle_model::table::{words_of, Row};
 
 /// A job to come: on which tick, of which row, and how many ticks it needs, C at most.
 pub struct Coming {
@@ -49,7 +47,7 @@ struct Host<'a> {
 
 /// Runs a table up to a tick, with four random words to a choice or none.
 pub fn run(rows: &[Row], coming: &[Coming], end: u64, words: Option<Rng>) -> Run {
-    let (reply, record) = Record::admit(&words_of(rows));
+    let (reply, record) = Record::start(&words_of(rows));
     assert!(reply.is_accepted(), "{rows:?}");
     let mut host = Host {
         rows,

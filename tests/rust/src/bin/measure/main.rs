@@ -7,6 +7,7 @@ mod count;
 mod differing;
 mod host;
 mod meters;
+mod opinions;
 mod overloads;
 mod sides;
 mod time;
@@ -14,7 +15,7 @@ mod time;
 use std::collections::HashMap;
 use std::path::Path;
 
-use cases::{busy, table, Case, Shape, CALLS, CHOICES, SHAPES};
+use cases::{busy, table, takes_table, Case, Shape, CALLS, CHOICES, SHAPES};
 use count::{functions, of_one_call, repeat, COUNTED};
 use shuffle_model::calls::candidates;
 use shuffle_model::gifts::{shares, Share};
@@ -37,6 +38,7 @@ fn main() {
         match call {
             arrivals::CALL => arrivals::make_counted_calls(shape, rows),
             meters::CALL => meters::make_counted_calls(options.number("--question", 0)),
+            opinions::CALL => opinions::make_counted_calls(options.number("--question", 0)),
             overloads::CALL => overloads::make_counted_calls(options.number("--question", 0)),
             _ => make_counted_calls(shape, rows, call),
         }
@@ -60,6 +62,7 @@ fn main() {
     arrivals::print_counts(scratch);
     print_growth(&counts);
     meters::print(scratch);
+    opinions::print(scratch);
     overloads::print(scratch);
     differing::print();
 }
@@ -100,6 +103,7 @@ fn check_everything(passing: &[Named]) {
         arrivals::check(shape, count);
     }
     meters::check();
+    opinions::check();
     overloads::check();
     differing::check();
 }
@@ -157,9 +161,9 @@ fn heading(text: &str) {
     println!();
 }
 
-/// A line's part on the cores; admission has none.
+/// A line's part on the cores; opinion and start have none.
 fn core_part(call: &str, library: f64, model: f64) -> String {
-    if call == "admit" {
+    if takes_table(call) {
         return "| | |".to_string();
     }
     format!("{library:.0} | {model:.0} | {:.2} |", library / model)
@@ -258,7 +262,7 @@ const CHECKED: [Group; 8] = [
 const CORES: [Group; 2] = [
     ("core of choose", |timed| timed.call == "choose"),
     ("cores of arrive, advance and finish", |timed| {
-        !matches!(timed.call, "admit" | "choose")
+        timed.call != "choose" && !takes_table(timed.call)
     }),
 ];
 
@@ -385,7 +389,7 @@ fn print_growth(counts: &Counts) {
     for (shape, name) in SHAPES {
         for call in CALLS {
             for (form, side) in [("checked", "library_checked"), ("core", "library_core")] {
-                if call == "admit" && form == "core" {
+                if takes_table(call) && form == "core" {
                     continue;
                 }
                 let cells = GROWTH.map(|rows| match table(shape, rows) {

@@ -1,4 +1,4 @@
-//! The admission of tables that are refused with 3, which names the first overload:
+//! The opinion on tables that are refused with 3, which names the first overload:
 //! the library beside the model, which walks the deadlines up from the first, and
 //! beside the model with a scan in place of that walk.
 
@@ -10,10 +10,9 @@ use shuffle_model::overloaded::{late_overload_rows, overloaded_rows};
 use shuffle_model::record::Request;
 use shuffle_model::rng::Rng;
 use shuffle_model::shuffle::{number, Reply, Session as Record};
-use shuffle_model::table::{admit_rows, Row};
+use shuffle_model::table::{opinion_on, words_of, Row};
 use shuffle_model::tables::RowMaker;
 
-use crate::cases::words_of;
 use crate::count::{functions, of_one_call, repeat};
 use crate::heading;
 use crate::sides::{library_checked, model_refusal, scan_refusal};
@@ -38,7 +37,7 @@ struct Line {
     tables: Vec<Vec<Row>>,
 }
 
-/// The figures of one admission: the library's, the model's, the scan's.
+/// The figures of one opinion: the library's, the model's, the scan's.
 type Figures = [f64; 3];
 
 /// Tables of few rows, or with an overload behind a long clear stretch, or with steps
@@ -91,7 +90,7 @@ fn mixed_line((name, count, make): (&str, usize, RowMaker)) -> Line {
     let mut rng = Rng::new(1);
     let tables = repeat_with(|| make(&mut rng));
     let is_overloaded =
-        |rows: &Vec<Row>| admit_rows(rows).is_err_and(|refusal| refusal.number == 3);
+        |rows: &Vec<Row>| opinion_on(rows).is_err_and(|refusal| refusal.number == 3);
     Line {
         name: name.to_string(),
         tables: tables.filter(is_overloaded).take(count).collect(),
@@ -125,7 +124,7 @@ pub fn check() {
 }
 
 fn answer(rows: &[Row]) -> Reply {
-    let request = Request::Admit(words_of(rows));
+    let request = Request::Opinion(words_of(rows));
     let mut record = Record::NONE;
     library_checked(&mut record, &request)
 }
@@ -133,9 +132,9 @@ fn answer(rows: &[Row]) -> Reply {
 pub fn make_counted_calls(place: usize) {
     for rows in line(place).tables {
         let words = words_of(&rows);
-        let request = Request::Admit(words.clone());
+        let request = Request::Opinion(words.clone());
         // Not counted: what the model first allocates takes longer than what follows.
-        black_box(admit_rows(&rows)).expect_err("the tables are refused");
+        black_box(opinion_on(&rows)).expect_err("the tables are refused");
         repeat(&Record::NONE, ONCE, |record| {
             library_checked(record, &request)
         });
@@ -146,7 +145,7 @@ pub fn make_counted_calls(place: usize) {
 
 pub fn print(scratch: &Path) {
     heading("The first overload of a table");
-    println!("Admissions that are refused with 3. The model walks the deadlines up from the first; the scan is the model with every tick tried, from 1.");
+    println!("Opinions that are refusal 3. The model walks the deadlines up from the first; the scan is the model with every tick tried, from 1.");
     println!();
     let lines = lines();
     print_head("µs");
@@ -197,10 +196,10 @@ fn print_times(line: &Line) {
     print_figures(line, "greatest", greatest, 2);
 }
 
-/// The times of one admission in µs.
+/// The times of one opinion in µs.
 fn times(rows: &[Row], batches: usize) -> Figures {
     let words = &words_of(rows);
-    let request = &Request::Admit(words.clone());
+    let request = &Request::Opinion(words.clone());
     let sides = [
         sized(&Record::NONE, |record| library_checked(record, request)),
         sized(&(), |()| model_refusal(words)),
@@ -215,7 +214,7 @@ fn sized<'a, S: Clone, R>(state: &'a S, call: impl Fn(&mut S) -> R + Copy + 'a) 
     side(state, if time < LONG { BATCH } else { 1 }, call)
 }
 
-/// The instructions of one admission, of many tables the mean.
+/// The instructions of one opinion, of many tables the mean.
 fn counts(scratch: &Path, place: usize, tables: usize) -> Figures {
     let arguments = ["--call", CALL, "--question", &place.to_string()];
     let counts = functions(scratch, &arguments);

@@ -2,13 +2,15 @@
 //! each call with the check of soundness and without it. The names of the
 //! functions here are what the counts go by.
 
+use std::hint::black_box;
+
 use shuffle_model::calls::{self, arrive_all, perform, perform_on_sound, Call};
 use shuffle_model::meter::{meter, Question};
-use shuffle_model::record::{answered, ask_library, reply_of, rows_of, Request};
-use shuffle_model::session::Session;
-use shuffle_model::shuffle::{Arrival, Reply, Session as Record};
+use shuffle_model::record::{answered, ask_library, reply_of, Request};
+use shuffle_model::session::{start, Session};
+use shuffle_model::shuffle::{self, Arrival, Reply, Session as Record};
 use shuffle_model::table::{
-    admit, admit_by, admit_by_scan, overloads_by_scan, Kind, Refusal, Table,
+    kind_by_scan, opinion, opinion_by, overloads_by_scan, rows_of, Kind, Opinion, Refusal,
 };
 
 use crate::arrivals::Lent;
@@ -29,7 +31,7 @@ pub fn library_checked(record: &mut Record, request: &Request) -> Reply {
     request.perform(record)
 }
 
-/// A call of the library on a record that is known to be sound. Admission has
+/// A call of the library on a record that is known to be sound. Opinion and start have
 /// no such form.
 #[no_mangle]
 #[inline(never)]
@@ -37,7 +39,7 @@ pub fn library_core(record: &mut Record, request: &Request) -> Reply {
     // SAFETY: the cases' records are sound, and each slice is passed whole.
     unsafe {
         match request {
-            Request::Admit(words) => record.replace(words),
+            Request::Opinion(_) | Request::Start(_) => request.perform(record),
             Request::Arrive(row) => core_arrive(record, *row),
             Request::Choose(words) => core_choose(record, words.as_ptr(), words.len()),
             Request::Advance(ticks) => core_advance(record, *ticks),
@@ -48,7 +50,7 @@ pub fn library_core(record: &mut Record, request: &Request) -> Reply {
 
 fn call_of(request: &Request) -> Option<Call<'_>> {
     match request {
-        Request::Admit(_) => None,
+        Request::Opinion(_) | Request::Start(_) => None,
         Request::Arrive(row) => Some(Call::Arrive(*row as u32)),
         Request::Choose(words) => Some(Call::Choose(words)),
         Request::Advance(ticks) => Some(Call::Advance(*ticks as u32)),
@@ -70,7 +72,7 @@ fn admitted(kind: Kind, count: usize) -> Reply {
 pub fn model_checked(session: &mut Session, request: &Request) -> Reply {
     match call_of(request) {
         Some(call) => reply_of(perform(session, call)),
-        None => model_admission(session, request),
+        None => model_table(session, request),
     }
 }
 
@@ -79,17 +81,22 @@ pub fn model_checked(session: &mut Session, request: &Request) -> Reply {
 pub fn model_core(session: &mut Session, request: &Request) -> Reply {
     match call_of(request) {
         Some(call) => reply_of(perform_on_sound(session, call)),
-        None => model_admission(session, request),
+        None => model_table(session, request),
     }
 }
 
-fn model_admission(session: &mut Session, request: &Request) -> Reply {
-    let Request::Admit(words) = request else {
-        unreachable!("every other request is a call");
-    };
-    let table = admit(words).expect("the tables are admitted");
-    *session = Session::new(table);
-    admitted(session.kind, session.rows.len())
+fn model_table(session: &mut Session, request: &Request) -> Reply {
+    match request {
+        Request::Opinion(words) => {
+            let opinion = opinion(words).expect("the tables are admitted");
+            admitted(opinion.kind, opinion.budgets.len())
+        }
+        Request::Start(words) => {
+            *session = start(words).expect("the tables are admitted");
+            admitted(session.kind, session.rows.len())
+        }
+        _ => unreachable!("every other request is a call"),
+    }
 }
 
 /// The model with the definitions of busy length and overload tried tick by
@@ -99,12 +106,12 @@ fn model_admission(session: &mut Session, request: &Request) -> Reply {
 pub fn scan_checked(session: &mut Session, request: &Request) -> Reply {
     match (request, call_of(request)) {
         (_, Some(call)) => {
-            let kind = admit_by_scan(&session.rows);
+            let kind = kind_by_scan(&session.rows);
             assert!(kind == Some(session.kind) && session.fits_its_table());
             reply_of(perform_on_sound(session, call))
         }
-        (Request::Admit(words), None) => {
-            let kind = admit_by_scan(&rows_of(words)).expect("the tables are admitted");
+        (Request::Opinion(words) | Request::Start(words), None) => {
+            let kind = kind_by_scan(&rows_of(words)).expect("the tables are admitted");
             admitted(kind, words.len() / 3)
         }
         _ => unreachable!("every other request is a call"),
@@ -149,8 +156,8 @@ pub fn model_meter(question: &mut Question) -> Reply {
 }
 
 /// The answer to a table that is not admitted.
-fn refused(admission: Result<Table, Refusal>) -> Reply {
-    let Refusal { number, values } = admission.expect_err("the tables are refused");
+fn refused(opinion: Result<Opinion, Refusal>) -> Reply {
+    let Refusal { number, values } = opinion.expect_err("the tables are refused");
     let [first, second] = values;
     Reply {
         number: u64::from(number),
@@ -160,18 +167,36 @@ fn refused(admission: Result<Table, Refusal>) -> Reply {
     }
 }
 
-/// The model's admission of a table that it refuses.
+/// The model's opinion on a table that it refuses.
 #[no_mangle]
 #[inline(never)]
 pub fn model_refusal(words: &[u32]) -> Reply {
-    refused(admit(words))
+    refused(opinion(words))
 }
 
 /// The same, but for the search for an overload: it tries every tick from 1.
 #[no_mangle]
 #[inline(never)]
 pub fn scan_refusal(words: &[u32]) -> Reply {
-    refused(admit_by(words, |rows, limit| {
+    refused(opinion_by(words, |rows, limit| {
         overloads_by_scan(rows, limit).next()
     }))
+}
+
+/// The library's opinion on each of many tables.
+#[no_mangle]
+#[inline(never)]
+pub fn library_opinions(tables: &[Vec<u32>]) {
+    for words in tables {
+        black_box(shuffle::opinion(words));
+    }
+}
+
+/// The model's opinion on each of them.
+#[no_mangle]
+#[inline(never)]
+pub fn model_opinions(tables: &[Vec<u32>]) {
+    for words in tables {
+        let _ = black_box(opinion(words));
+    }
 }

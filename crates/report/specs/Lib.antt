@@ -1,0 +1,4 @@
+pub mod Text
+pub mod Rows
+pub mod Put
+pub mod Whole
