@@ -1,6 +1,6 @@
 -- Text in a lent buffer. Assumes nothing.
 use Prim.Native.Nat.{ℕ, _+_, _≤_, _<_}
-use mathlib.Core.Path.{_≡_, _∙_}
+use mathlib.Core.Path.{_≡_, sym, _∙_}
 use mathlib.Core.List.{List, [], _∷_, _++_, append-assoc, append-nil}
 use native.Mathlib.Nat.{add-assoc, add-zero}
 use native.Mathlib.Numerals.{add-one}
@@ -43,6 +43,9 @@ module _ (d : List ℕ) (at : ℕ) (t : List ℕ) (fits : at + length t ≤ leng
       (simp (append-assoc, length-append, add-assoc))
 
 -- ---- the laws of `Wrote`
+
+pub wrote-none : (m : ℕ) (d : List ℕ) (at : ℕ) → Wrote m [] d d at at
+wrote-none m d at = record { buffer = sym (overlay-none d at); place = omega arith; short = omega arith }
 
 pub wrote-byte : (d : List ℕ) (at b : ℕ) → at < length d → Wrote 1 (b ∷ []) d (set d at b) at (at + 1)
 unfolding overlay

@@ -11,7 +11,7 @@ use Rattle.lines.specs.declared.read.Call.the-variants.{Arrive, Choose, Advance
 use Rattle.lines.specs.declared.read.Line.{Line}
 use Rattle.lines.specs.declared.read.Line.the-variants.{Row, Word, Call, Empty, Unreadable}
 use Rattle.lines.specs.declared.read.Next.{Next}
-use Rattle.lines.specs.Lines.{linesOf, lines-end, leastSize, Took}
+use Rattle.lines.specs.Lines.{linesOf, lines-end, leastSize, size-some, Took}
 use Rattle.report.specs.Whole.{filled-short, read-limit, room-kept, filled-printed}
 use Rattle.desk.specs.declared.step.Progress.{Progress}
 use Rattle.desk.specs.Opinions.{inputLimit, noDraft, stepOf, answersFrom, outputOf, roomFor, Advised}
@@ -74,16 +74,6 @@ ended-size (Call Finish) = omega arith
 ended-size Empty = omega arith
 ended-size Unreadable = omega arith
 
-least-size : (x : Line) → 1 ≤ leastSize x
-least-size (Row c t d) = omega arith
-least-size (Word w) = omega arith
-least-size (Call (Arrive row)) = omega arith
-least-size (Call Choose) = omega arith
-least-size (Call (Advance n)) = omega arith
-least-size (Call Finish) = omega arith
-least-size Empty = omega arith
-least-size Unreadable = omega arith
-
 ended : (text : List ℕ) (at : ℕ) (n : Next) → Took text at n → n .at < length text → at + endedSize (n .line) ≤ n .at
 unfolding isEmpty
 ended text at n t h = by (n .line) refl
@@ -99,7 +89,7 @@ ended text at n t h = by (n .line) refl
     by Unreadable e = two Unreadable refl e
 
 pub reading-less : (text : List ℕ) (at : ℕ) (n : Next) → at < length text → Took text at n → length text - n .at < length text - at
-reading-less text at n h t = omega (arith, t .size, t .within, least-size (n .line))
+reading-less text at n h t = omega (arith, t .size, t .within, size-some (n .line))
 
 -- ---- the loop
 
@@ -129,7 +119,7 @@ module _ (text first : List ℕ) (p : Progress) (w out : List ℕ) (at : ℕ) (n
           place = t .within;
           places = d .places ∙ now .places;
           few = d .few;
-          line = omega (arith, d .line, now .line, t .size, least-size (n .line));
+          line = omega (arith, d .line, now .line, t .size, size-some (n .line));
           paid = λ k. omega (arith, spent, ended text at n t k);
           last = omega (arith, spent, ended-size (n .line), t .size);
           same = wrote-length 1479 x out after (p .end) (r .end) fits (d .wrote) ∙ now .same;

@@ -8,7 +8,7 @@ use lib.Dec.{ltb}
 use lib.ListN.{length, take, length-append}
 use lib.Seq.{length-take-le}
 use borrow.Author.Tests.{lt-ltb, le-ltb}
-use Rattle.decimal.specs.Buffer.{Wrote, overlay-none, wrote-more, wrote-within}
+use Rattle.decimal.specs.Buffer.{Wrote, wrote-none, wrote-more, wrote-within}
 use Rattle.lines.specs.declared.read.Call.{Call as CallKind}
 use Rattle.lines.specs.declared.read.Line.{Line}
 use Rattle.lines.specs.declared.read.Line.the-variants.{Row, Word, Call, Empty, Unreadable}
@@ -100,9 +100,6 @@ unread-is p before after end ready w = record {
 }
 
 -- ---- `put_answer`
-
-wrote-none : (m : ℕ) (d : List ℕ) (at : ℕ) → Wrote m [] d d at at
-wrote-none m d at = record { buffer = sym (overlay-none d at); place = omega arith; short = omega arith }
 
 module _ (p : Progress) (w before : List ℕ) (ready : Ready p before) (places : length w ≡ 48) where
   rows-length : length (take (3 * p .count) w) ≡ 3 * p .count

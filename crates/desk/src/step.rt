@@ -98,6 +98,7 @@ fn add(
     }
 }
 
+// One line. Internal: the loop over the lines has seen to the room.
 pub fn step(p: Progress, line: Line, words: &mut [u32], out: &mut [u8]) -> Progress
     requires { ⌜ Ready p (now out) × (length (now words) ≡ 48) ⌝ }
     ensures { λ r. ⌜ LineDid line p r (now (words .entry)) (now (words .exit)) (now (out .entry)) (now (out .exit)) ⌝ }
@@ -115,7 +116,7 @@ pub fn step(p: Progress, line: Line, words: &mut [u32], out: &mut [u8]) -> Progr
     }
 }
 
-// The end of the input, which ends a table that has a line.
+// The end of the input, which ends a table that has a line. Internal: as `step`.
 pub fn finish(p: Progress, words: &[u32], out: &mut [u8]) -> usize
     requires { ⌜ Ready p (now out) × (length (now words) ≡ 48) ⌝ }
     ensures { λ r. ⌜ Finished (lastText (draftOf (now (words .entry)) p)) p (now (out .entry)) (now (out .exit)) r ⌝ }

@@ -43,6 +43,16 @@ leastSize (Call Finish) = 2
 leastSize Empty = 1
 leastSize Unreadable = 1
 
+pub size-some : (x : Line) → 1 ≤ leastSize x
+size-some (Row c t d) = omega arith
+size-some (Word w) = omega arith
+size-some (Call (Arrive row)) = omega arith
+size-some (Call Choose) = omega arith
+size-some (Call (Advance n)) = omega arith
+size-some (Call Finish) = omega arith
+size-some Empty = omega arith
+size-some Unreadable = omega arith
+
 -- how many bytes fields take, each with the tab or newline after it
 width : List (List ℕ) → ℕ
 width [] = 0

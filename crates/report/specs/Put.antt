@@ -10,7 +10,7 @@ use lib.ListN.{length, getD}
 use borrow.Author.Tests.{eq-eqb, ne-eqb}
 use Rattle.bounded.specs.Signed.{negative}
 use Rattle.decimal.specs.Decimal.{decimal}
-use Rattle.decimal.specs.Buffer.{Wrote, overlay-none, wrote-length, wrote-more, wrote-within}
+use Rattle.decimal.specs.Buffer.{Wrote, wrote-none, wrote-length, wrote-more, wrote-within}
 use Rattle.lines.specs.Text.{headText, lineText}
 use Rattle.table.specs.declared.Numbers.{Numbers}
 use Rattle.table.specs.declared.Judgement.{Judgement}
@@ -66,7 +66,7 @@ module _ (v : List ℤ) (rows : ℕ) (d : List ℕ) (at : ℕ) where
     room = room;
     within = omega arith;
     length = refl;
-    text = record { buffer = sym (overlay-none d at); place = omega arith; short = omega arith };
+    text = wrote-none 0 d at;
   }
 
   module _ (i : ℕ) (e : List ℕ) (p : ℕ) (x : Listed v rows d at i e p) where

@@ -10,7 +10,7 @@ use lib.ListN.{length, take, drop, set, length-set}
 use lib.Seq.{take-nil, drop-drop, drop-append-le, length-slice, length-take-le, take-suc-set}
 use borrow.Author.Tests.{lt-ltb, le-ltb}
 use Rattle.bounded.specs.Tests.{both}
-use Rattle.decimal.specs.Buffer.{Wrote, overlay-none}
+use Rattle.decimal.specs.Buffer.{Wrote, wrote-none}
 use Rattle.lines.specs.declared.read.Call.{Call}
 use Rattle.lines.specs.declared.read.Call.the-variants.{Arrive, Choose, Advance, Finish}
 use Rattle.lines.specs.declared.read.Line.the-variants.{Word, Call as CallLine}
@@ -79,9 +79,6 @@ pub told-is : (clock letter : ℕ) (a : Answer) (n : Numbers) (d e : List ℕ) (
 unfolding answerText
 told-is clock letter a n d e at q s w = rw (s .number, s .first, s .second) at w
 
-wrote-none : (d : List ℕ) (at : ℕ) → Wrote 86 [] d d at at
-wrote-none d at = record { buffer = sym (overlay-none d at); place = omega arith; short = omega arith }
-
 -- ---- the words that wait
 
 module _ (w : List ℕ) (p : Play) (order : p .from ≤ p .to) (within : p .to ≤ length w) where
@@ -129,7 +126,7 @@ module _ (clock : ℕ) (p : Play) (w : ℕ) (words before : List ℕ) (ready : R
       record {
         did = λ s e.
             rw f record {
-              wrote = wrote-none before (p .end);
+              wrote = wrote-none 86 before (p .end);
               session = refl;
               queue = queue-push words p (ready .order) (ready .within) w h;
               order = omega (arith, ready .order);

@@ -10,11 +10,10 @@ use lib.ListN.{length, drop, length-append}
 use Rattle.bounded.specs.Tests.{both}
 use Rattle.decimal.specs.Buffer.{Wrote, overlay, overlay-none, overlay-more, wrote-length}
 use Rattle.lines.specs.declared.read.Call.{Call}
-use Rattle.lines.specs.declared.read.Call.the-variants.{Arrive, Choose, Advance, Finish}
 use Rattle.lines.specs.declared.read.Line.{Line}
 use Rattle.lines.specs.declared.read.Line.the-variants.{Row, Word, Call as CallLine, Empty, Unreadable}
 use Rattle.lines.specs.declared.read.Next.{Next}
-use Rattle.lines.specs.Lines.{linesOf, lines-end, leastSize, Took}
+use Rattle.lines.specs.Lines.{linesOf, lines-end, leastSize, size-some, Took}
 use Rattle.session.specs.declared.Session.{Session}
 use Rattle.session.specs.declared.Outcome.{Outcome}
 use Rattle.transcript.specs.declared.step.Play.{Play}
@@ -47,16 +46,6 @@ words-size (Word w) = omega arith
 words-size (CallLine c) = omega arith
 words-size Empty = omega arith
 words-size Unreadable = omega arith
-
-some-size : (x : Line) → 1 ≤ leastSize x
-some-size (Row c t d) = omega arith
-some-size (Word w) = omega arith
-some-size (CallLine (Arrive row)) = omega arith
-some-size (CallLine Choose) = omega arith
-some-size (CallLine (Advance n)) = omega arith
-some-size (CallLine Finish) = omega arith
-some-size Empty = omega arith
-some-size Unreadable = omega arith
 
 -- ---- the loop
 
@@ -95,7 +84,7 @@ pub record Playing (text : List ℕ) (start : ℕ) (s₀ : Session) (p₀ : Play
   pub total : p .end + length (owed text s p words at) ≡ p₀ .end + length (owed text s₀ p₀ [] start)
 
 pub play-less : (text : List ℕ) (at : ℕ) (n : Next) → at < length text → Took text at n → length text - n .at < length text - at
-play-less text at n h t = omega (arith, t .size, t .within, some-size (n .line))
+play-less text at n h t = omega (arith, t .size, t .within, size-some (n .line))
 
 pub play-start : (text : List ℕ) (start : ℕ) (s : Session) (p : Play) (first words : List ℕ) → Begun text start s p first → length words ≡ 16384
     → Playing text start s p first s p words first start
@@ -185,7 +174,7 @@ module _ (text : List ℕ) (start : ℕ) (s₀ : Session) (p₀ : Play) (first :
               order = d .order;
               places = d .words ∙ now .places;
               queued = omega (arith, now .queued, d .most, t .size, words-size (n .line));
-              line = omega (arith, d .line e, now .line, t .size, some-size (n .line));
+              line = omega (arith, d .line e, now .line, t .size, size-some (n .line));
               end = omega (arith, d .wrote .place, short, now .end, t .size);
               same = wrote-length 86 (x .text) out out′ (p .end) (r .end) fits (d .wrote) ∙ now .same;
               buffer =
