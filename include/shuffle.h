@@ -10,14 +10,17 @@
  * needs no record: whether it is admitted, its kind, and V of each row.
  * shuffle_start makes its fresh session.
  *
+ * shuffle_explain says in English what choose would answer and why. It changes
+ * nothing but the buffer that it writes the text to.
+ *
  * The host's loop. Advance by the ticks that passed; finish, if the running job
  * is done and its choice has ticks left; arrive, for each job that came on this
  * tick, or arrive_all for several of them; choose, if no choice is in force; run
  * what was chosen, with a timer for the span.
  *
- * Ownership. The caller owns the record, the words, the list and the rows; the
- * library keeps no pointer, has no global state, allocates nothing and needs no
- * setup. Of the C library it calls memcpy and memset only.
+ * Ownership. The caller owns the record, the words, the list, the rows and the
+ * buffer; the library keeps no pointer, has no global state, allocates nothing
+ * and needs no setup. Of the C library it calls memcpy and memset only.
  *
  * Stack. No call takes more than 8,192 bytes of it, memcpy and memset not
  * counted.
@@ -30,8 +33,9 @@
  * not be used by two calls at a time.
  *
  * Pointers must not be null, also where n is 0, and must be aligned for their
- * type. They must point to a whole record, to n words, to n rows, or to a list
- * of n arrivals. Words and list must not overlap the record.
+ * type. They must point to a whole record, to n words, to n rows, to a list of n
+ * arrivals, or to a buffer of size bytes. Words, list and buffer must not overlap
+ * the record, nor one another.
  *
  * Contents. A record of any content may be handed in; if it is not sound
  * (section 5.2), every call on it answers 5, arrive_all in each place of its
@@ -65,6 +69,9 @@ extern "C" {
 #define SHUFFLE_METER_STRETCHES 255
 #define SHUFFLE_METER_TICKS 16384
 
+/* The least buffer for a text. No text has more than 1,951 bytes. */
+#define SHUFFLE_TEXT 2048
+
 /*
  * The kinds of an admitted table: no V is negative; each is; some are. A row whose
  * V is negative is brittle: the budget of its jobs is 0.
@@ -82,6 +89,7 @@ enum shuffle_number {
      * Accepted. Opinion and start: kind, number of rows. Arrive: row, deadline.
      * Choose: row or 16 for idle, span. Advance: ticks left, 1 if the job is over
      * (else 0). Finish: row, unused ticks. Meter: how mixed the schedule is.
+     * Explain: the length of the text.
      */
     SHUFFLE_ACCEPTED = 0,
 
@@ -105,7 +113,7 @@ enum shuffle_number {
     SHUFFLE_NO_ROW = 6,
     /* Arrive: too early. Values: row, earliest next arrival. */
     SHUFFLE_TOO_EARLY = 7,
-    /* Choose: a choice is in force. Values: its ticks left. */
+    /* Choose or explain: a choice is in force. Values: its ticks left. */
     SHUFFLE_IN_FORCE = 8,
     /* Advance or finish: no choice is in force. Values: none. */
     SHUFFLE_NO_CHOICE = 9,
@@ -119,7 +127,10 @@ enum shuffle_number {
     /* 13 is what the program prints of a line that it can't read; no call gives it. */
 
     /* The meter, which has no record: stretches, ticks, window or n breaks its rule. Values: none. */
-    SHUFFLE_BAD_SHAPE = 14
+    SHUFFLE_BAD_SHAPE = 14,
+
+    /* Explain: the buffer has fewer than 2,048 bytes. Values: its size. */
+    SHUFFLE_SHORT_BUFFER = 15
 };
 
 /* What is held for a row. A job waits from its arrival until it is over, whether it runs or not. */
@@ -146,7 +157,7 @@ typedef struct shuffle_session {
     uint64_t span;                  /* its ticks left; 0: no choice is in force */
 } shuffle_session;
 
-/* An answer: its number, how many words a choice used (0 to n; 0 for all else), and two values. */
+/* An answer: its number, how many words a choice used, or would use (0 to n; 0 for all else), and two values. */
 typedef struct shuffle_reply {
     uint64_t number; /* one of enum shuffle_number */
     uint64_t used;
@@ -231,6 +242,21 @@ shuffle_reply shuffle_advance(shuffle_session *session, uint64_t n);
  * soon as it is chosen again, before any tick passes. Refusals: 5, 9, 11.
  */
 shuffle_reply shuffle_finish(shuffle_session *session);
+
+/*
+ * Says in English what shuffle_choose would answer on this record and these n
+ * words, and why: each waiting job in order, with its budget and whether it was a
+ * candidate; in a mixed session the brittle deadline; what is chosen, and by
+ * which word; the span, and what set it. docs/EXPLANATIONS.md has every phrase.
+ *
+ * The text, which is ASCII in lines, stands at the start of the buffer, without a
+ * 0 at its end; the bytes past it stay as they were. First value: its length.
+ * used: how many words shuffle_choose would use. The record stays as it is, and
+ * no word is used up. A buffer of fewer than SHUFFLE_TEXT bytes is refused, also
+ * where the text would fit. Refusals: 5, 8, 15, and then nothing is written.
+ */
+shuffle_reply shuffle_explain(const shuffle_session *session, const uint32_t *words, size_t n, uint8_t *buffer,
+                              size_t size);
 
 /* 1 if the record is sound, else 0. */
 uint32_t shuffle_is_sound(const shuffle_session *session);

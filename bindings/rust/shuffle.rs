@@ -19,6 +19,8 @@ pub const CLOCK_END: u64 = 1 << 53;
 pub const METER_STRETCHES: usize = 255;
 /// Most ticks of all stretches together.
 pub const METER_TICKS: usize = 16_384;
+/// The least buffer for a text; no text has more than 1,951 bytes.
+pub const TEXT: usize = 2_048;
 /// The kind of a table in which no V is negative.
 pub const LOOSE: u64 = 1;
 /// The kind of a table in which each V is negative; in a session of it every budget is 0.
@@ -32,7 +34,7 @@ pub const MIXED: u64 = 3;
 pub mod number {
     /// Accepted. Opinion and start: kind, number of rows. Arrive: row, deadline. Choose: row or 16
     /// for idle, span. Advance: ticks left, 1 if the job is over. Finish: row, unused ticks. Meter:
-    /// how mixed the schedule is.
+    /// how mixed the schedule is. Explain: the length of the text.
     pub const ACCEPTED: u64 = 0;
     /// Opinion and start: the length is 0, above 48 or no multiple of 3. Values: length.
     pub const BAD_LENGTH: u64 = 1;
@@ -50,7 +52,7 @@ pub mod number {
     pub const NO_ROW: u64 = 6;
     /// Arrive: too early. Values: row, earliest next arrival.
     pub const TOO_EARLY: u64 = 7;
-    /// Choose: a choice is in force. Values: its ticks left.
+    /// Choose or explain: a choice is in force. Values: its ticks left.
     pub const IN_FORCE: u64 = 8;
     /// Advance or finish: no choice is in force.
     pub const NO_CHOICE: u64 = 9;
@@ -62,6 +64,8 @@ pub mod number {
     pub const CLOCK_ENDS: u64 = 12;
     /// The meter: stretches, ticks, window or the number of rows breaks its rule.
     pub const BAD_SHAPE: u64 = 14;
+    /// Explain: the buffer has fewer than 2,048 bytes. Values: its length.
+    pub const SHORT_BUFFER: u64 = 15;
 }
 
 /// What is held for a row. A job waits from its arrival until it is over, running or not.
@@ -104,13 +108,13 @@ pub struct Session {
     pub span: u64,
 }
 
-/// An answer: its number, how many words a choice used, and two values (see `number`).
+/// An answer: its number, how many words a choice used or would use, and two values (see `number`).
 #[repr(C)]
 #[derive(Clone, Copy, Debug, PartialEq, Eq)]
 pub struct Reply {
     /// One of the numbers in `number`.
     pub number: u64,
-    /// From 0 to all words for a choice, 0 for all else.
+    /// From 0 to all words for a choice and for its explanation, 0 for all else.
     pub used: u64,
     /// The first value.
     pub first: u64,
@@ -191,6 +195,13 @@ unsafe extern "C" {
     safe fn shuffle_advance(session: &mut Session, n: u64) -> Reply;
     safe fn shuffle_finish(session: &mut Session) -> Reply;
     safe fn shuffle_is_sound(session: &Session) -> u32;
+    fn shuffle_explain(
+        session: &Session,
+        words: *const u32,
+        n: usize,
+        buffer: *mut u8,
+        size: usize,
+    ) -> Reply;
     fn shuffle_meter(
         rows: *const u8,
         n: usize,
@@ -305,6 +316,24 @@ impl Session {
     /// Refusals: 5, 9, 11.
     pub fn finish(&mut self) -> Reply {
         shuffle_finish(self)
+    }
+
+    /// Says in English what `choose` would answer on these words, and why: docs/EXPLANATIONS.md has
+    /// every phrase. The text is written to the start of the buffer, which has at least `TEXT` bytes;
+    /// the bytes past it stay as they were. First value: its length. `used` is how many words
+    /// `choose` would use. Nothing else changes. Refusals: 5, 8, 15, and then nothing is written.
+    pub fn explain(&self, words: &[u32], buffer: &mut [u8]) -> Reply {
+        // SAFETY: pointer and length of two slices, never null, also for empty ones; the buffer is
+        // borrowed for change, so it overlaps neither the words nor the record.
+        unsafe {
+            shuffle_explain(
+                self,
+                words.as_ptr(),
+                words.len(),
+                buffer.as_mut_ptr(),
+                buffer.len(),
+            )
+        }
     }
 
     /// Whether the session is sound, so that no call on it answers 5.

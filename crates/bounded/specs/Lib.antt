@@ -1,6 +1,7 @@
 pub mod Tests
 pub mod Within
 pub mod Sum
+pub mod Counted
 pub mod Product
 pub mod Fold
 pub mod All

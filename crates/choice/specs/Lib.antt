@@ -1,3 +1,4 @@
+pub mod Decision
 pub mod Nearest
 pub mod Columns
 pub mod Agree

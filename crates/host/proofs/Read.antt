@@ -1,4 +1,5 @@
--- The law for every `fn f(s: &Session) -> uW { g(*s) }` over a `fn g(s: Session) -> uW` with `ensures { λ r. ⌜ r ≡ spec s ⌝ }`.
+-- The law for a function that only reads the record. Assumes nothing.
+-- Every `fn f(s: &Session) -> uW { g(*s) }` over a `fn g(s: Session) -> uW` with `ensures { λ r. ⌜ r ≡ spec s ⌝ }`.
 use mathlib.Core.Path.{_≡_, refl}
 use Prim.Native.Nat.{ℕ}
 use mathlib.Core.List.{[], _∷_, List}
@@ -10,19 +11,17 @@ use base.Fml.{GName, Lft, Share, ftrue, flft, fres, fshr-bor}
 use prog.Wp.{Heap, Calls, Loops, WpFn, Tables}
 use ghost.Atoms.{Atoms, sem}
 use contract.Monad.{fact}
-use types.Kit.{Given, ‵, raw, _⊛_, some, later, _$_, _∵_, !, qed, by, move, keep, drop, use1, split, join, pick, fsplit, fsplit3, fjoin, fjoin3, feqI, suffices, frame, await, done}
+use types.Kit.{Given, ‵, raw, _⊛_, _$_, _∵_, !, qed, by, move, keep, drop, use1, split, join, fsplit, fsplit3, fjoin, fjoin3, feqI, suffices, frame, done}
 use types.Run.{look, look-raw, init, forget, stop, hop, from, load, of-opd, and-then, no-more, assigns, land, returns, enter, alloc1, alloc0, params1, pass1, pass0, free1, free0}
 use sound.WpLaws.{FmC, fmOf, WpFn-mono}
 use denote.RattleType.{owns}
-use denote.Laws.{Is, shows}
+use denote.Laws.{Is}
 use denote.Memory.{pointee, partAt}
 use denote.Plain.{UInt, uint-makes, uint-lawful}
 use denote.Builtin.{RefOf}
 use denote.Ref.{RefT, ShrRef, ptr-vals, shr-tells, now}
 use denote.Signature.{plain}
-use denote.Steps.{looks, shuts, owned, peeks, facts, heard, nothing}
-use denote.Struct.Steps.{spelt}
-use denote.Struct.Laws as LL
+use denote.Steps.{shuts, owned, heard, nothing}
 use denote.Triple.Statement.{Contract, Triple}
 use denote.Triple.Call.{calls-at}
 use denote.Triple.Entry.{onEntry}
@@ -33,7 +32,7 @@ use denote.Exit.{yes}
 use Rattle.session.specs.declared.Session.{Session}
 use Rattle.session.proofs.Session as S
 use Rattle.session.proofs.Session.Laws as S′
-use Rattle.session.proofs.Data.{valOf, IsOf, typed, has}
+use Rattle.session.proofs.Data.{valOf, IsOf, typed, has, looked, answers}
 use Rattle.session.proofs.Records.{session}
 
 -- f's MIR, over the key of g
@@ -104,24 +103,19 @@ module _ (k : Name) (w : Width) (spec : Session → ℕ) {M : Type 1} (𝓤 : UR
       walk =
           qed W ((‵ (flft κ q) ⊛ ‵ ftrue) ∷ ‵ (owns (ShrRef (named 0) κ S.the-row ∷ []) x at) ∷ []) ∵ enter ! C Λ (mirOf k w) (vptr b i ∷ []) _ $
           alloc1 ! (λ l₀. alloc1 ! (λ l₁. alloc1 ! (λ l₂. alloc0 ! $ params1 ! $ pass1 ! (init ! 2 refl (tt, tt)) $ pass0 ! $
-          move ! (7 ∷ []) $ fsplit ! $ fsplit3 ! $ drop ! $ move ! (9 ∷ []) $ split ! $ move ! (3 ∷ 0 ∷ []) $
-          looks ! tt S.the-row (Is S.the-row) (shows 𝓤 H A S.the-row) (LL.vals S.the-type S′.the-laws) (LL.tells S.the-type S′.the-laws)
-          ((LL.copy S.the-type S′.the-copy) 𝓤 H A W) s b i (λ q′ vs.
-          spelt ! S.the-row (Is S.the-row) (shows 𝓤 H A S.the-row) (LL.vals S.the-type S′.the-laws) (LL.tells S.the-type S′.the-laws) q′ s vs b i $
-          move ! (1 ∷ []) $ peeks ! S.the-row (Is S.the-row) (shows 𝓤 H A S.the-row) s (valOf session s ∷ []) (λ is. move ! (1 ∷ 0 ∷ []) $
+          move ! (7 ∷ []) $ fsplit ! $ fsplit3 ! $ drop ! $ move ! (9 ∷ []) $ split ! $ move ! (3 ∷ 0 ∷ []) $ looked ! tt session S′.the-copy s b i (λ q′ is.
           -- [a share of the record's cell; what it owns; what shuts it; the fractured borrow; true; res; true; _2; …; _1; …; room for _0; …]
           assigns ! (of-opd ! (load ! (from ! (hop ! (look ! 9 refl) (stop !))) (look-raw ! 0 refl))) (from ! (stop !)) (init ! 7 refl (typed W session s _ is)) $
           shuts ! tt S.the-row q′ s (valOf session s ∷ []) b i $
           -- [the token; the fractured borrow; true; res; true; _2; …; _1; …; room for _0; …]
           nothing ! $ use1 W (raw (Call .pre to-call)) (goes is) $
           calls-at ! fm Call calls to-call (and-then ! (load ! (from ! (stop !)) (look ! 6 refl)) (no-more !)) (λ v.
-          use1 W (later (some (λ (r : ℕ). (‵ ftrue ⊛ ‵ (UInt w .own r (v ∷ []))) ⊛ raw (ensured 𝓤 H A (g-ended w) g-clauses tt (s, tt) tt r)))) (id⊢ 𝓤 _) $ await ! tt $ pick ! (λ r.
-          split ! $ move ! (1 ∷ []) $ use1 W (raw (fact 𝓤 (r ≡ spec s))) (said s r) $ heard ! (r ≡ spec s) (λ e. split ! $ drop ! $
-          facts ! (UInt w) (Is (UInt w)) (shows 𝓤 H A (UInt w)) r (v ∷ []) (λ isr.
+          answers ! tt (UInt w) v (‵ ftrue) (λ r. raw (ensured 𝓤 H A (g-ended w) g-clauses tt (s, tt) tt r)) (Call .post to-call v) (id⊢ 𝓤 _) (λ r isr.
+          use1 W (raw (fact 𝓤 (r ≡ spec s))) (said s r) $ heard ! (r ≡ spec s) (λ e. drop ! $
           land ! (from ! (stop !)) (init ! 9 refl (uint-lawful 𝓤 H A W w .typed r _ isr .0)) $
           returns ! (look ! 9 refl) $ forget ! 5 refl $ forget ! 7 refl $ forget ! 9 refl $
           move ! (9 ∷ 10 ∷ []) $ free1 ! $ move ! (7 ∷ 8 ∷ []) $ free1 ! $ move ! (5 ∷ 6 ∷ []) $ free1 ! $ free0 ! $
-          keep ! (0 ∷ 3 ∷ 1 ∷ []) $ by ! (exits r v e isr))))))))))
+          keep ! (0 ∷ 3 ∷ 1 ∷ []) $ by ! (exits r v e isr))))))))
 
   pub meets : (W : Given 𝓤 H A) (𝓣 : Tables 𝓤 H) → Triple 𝓤 (𝓣 .C k) Call
       → Meets 𝓤 H A (f-ended w .signature) (WpFn 𝓤 H (𝓣 .C) (𝓣 .Λ) (mirOf k w)) (closing 𝓤 H A (f-ended w) f-clauses)

@@ -3,3 +3,4 @@ pub mod Sound
 pub mod Forms
 pub mod EveryForm
 pub mod Meter
+pub mod Explain

@@ -1,14 +1,18 @@
 // The library for C: the opinion on a table, and the calls on a session record of the host, a start and a batch of arrivals
 // among them (docs/SPECIFICATION.md §9). A slice passes as a pointer and a length.
 ghost use mathlib.Core.Path.{_≡_};
+ghost use lib.ListN.{length};
 ghost use Rattle.table.specs.Verdict.{opinionOf};
 ghost use Rattle.session.specs.Start.{startOf};
 ghost use Rattle.session.specs.Calls.{arriveOf, chooseOf, advanceOf, finishOf};
 ghost use Rattle.session.specs.Batch.{afterAll, answeredAll};
+ghost use Rattle.explain.specs.Explain.{toldOf, bufferOf};
 ghost use Rattle.meter.specs.Meter.{measureOf};
+ghost use Rattle.host.specs.Explain.{tellingReply};
 ghost use Rattle.host.specs.Meter.{meterReply, shapeOf};
 ghost use Rattle.host.specs.Reply.{replyOf, startReply, answered, judgementOf};
 ghost use Rattle.host.specs.Sound.{soundNumber};
+use explain::Told;
 use meter::Meter;
 use meter::Shape;
 use session::Arrival;
@@ -148,6 +152,53 @@ pub extern "C" fn shuffle_is_sound(s: &Session) -> u32
     ensures { λ r. ⌜ r ≡ soundNumber (now (s .entry)) ⌝ }
 {
     sound_number(*s)
+}
+
+fn telling(t: Told) -> Reply
+    ensures { λ r. ⌜ r ≡ tellingReply t ⌝ }
+{
+    match t {
+        Told::Text { length, used } => Reply {
+            number: 0,
+            used,
+            first: length,
+            second: 0,
+        },
+        Told::Unsound => Reply {
+            number: 5,
+            used: 0,
+            first: 0,
+            second: 0,
+        },
+        Told::InForce(left) => Reply {
+            number: 8,
+            used: 0,
+            first: left,
+            second: 0,
+        },
+        Told::Short(n) => Reply {
+            number: 15,
+            used: 0,
+            first: n,
+            second: 0,
+        },
+    }
+}
+
+// A function of its own: the law in crates/lent/proofs/Buffer.antt is for bodies that are one call.
+fn explained(s: Session, words: &[u32], out: &mut [u8]) -> Reply
+    ensures { λ r. ⌜ (r ≡ tellingReply (toldOf s (now (words .entry)) (length (now (out .entry))))) × (now (out .exit) ≡ bufferOf s (now (words .entry)) (now (out .entry))) ⌝ }
+{
+    let t = explain::tell(s, words, out);
+    telling(t)
+}
+
+// The text of what choose answers on these words, and why, in a buffer of the host. The record is only read.
+#[no_mangle]
+pub extern "C" fn shuffle_explain(s: &Session, words: &[u32], out: &mut [u8]) -> Reply
+    ensures { λ r. ⌜ (r ≡ tellingReply (toldOf (now (s .entry)) (now (words .entry)) (length (now (out .entry))))) × (now (out .exit) ≡ bufferOf (now (s .entry)) (now (words .entry)) (now (out .entry))) ⌝ }
+{
+    explained(*s, words, out)
 }
 
 fn metered(m: Meter) -> Reply

@@ -1,4 +1,5 @@
--- The law for every `fn f(s: &mut Session, list: &mut [Arrival]) { *s = g(*s, list); }` over a
+-- The law for a call with a list of records. Assumes nothing.
+-- Every `fn f(s: &mut Session, list: &mut [Arrival]) { *s = g(*s, list); }` over a
 -- `fn g(s: Session, list: &mut [Arrival]) -> Session` with
 -- `ensures { λ r. ⌜ (r ≡ left s (now (list .entry))) × (now (list .exit) ≡ filled s (now (list .entry))) ⌝ }`.
 use mathlib.Core.Path.{_≡_, refl, ap}
@@ -14,7 +15,7 @@ use base.Fml.{GName, Lft, Share, ftrue, fsep, fat, flft, fobs, fbor}
 use prog.Wp.{Heap, Calls, Loops, WpFn, Tables}
 use ghost.Atoms.{Atoms, sem}
 use contract.Monad.{fact}
-use types.Kit.{Given, ‵, raw, _⊛_, ⋆, some, later, _$_, _∵_, !, qed, by, move, keep, drop, use1, use2, split, join, pick, rewrite, fsplit, fsplit3, fjoin, fjoin3, feqL, feqI, suffices, frame, await, done}
+use types.Kit.{Given, ‵, raw, _⊛_, ⋆, _$_, _∵_, !, qed, by, move, keep, drop, use2, split, join, rewrite, fsplit, fsplit3, fjoin, fjoin3, feqI, suffices, frame, done}
 use types.Run.{look, look-raw, store-raw, init, forget, stop, hop, fld, from, load, addr, unit-lit, of-opd, and-then, no-more, assigns, land, returns, enter, alloc1, alloc0, params1, pass1, pass0, free1, free0}
 use types.Part.{agg, whole, sub, look-in}
 use types.SemTy.{Body}
@@ -24,16 +25,16 @@ use denote.Memory.{mem, pointee}
 use denote.Builtin.{RefMutOf, SliceRefMutOf}
 use denote.Builtin as builtin
 use denote.Ref.{RefT, MutRef, ptr-vals, mut-tells, now}
-use denote.Slice.{sliceTy, sliceVal, MutSlice, Room, slice-vals, mut-slice-tells, finally}
+use denote.Slice.{sliceTy, MutSlice, Room, slice-vals, mut-slice-tells, finally}
 use denote.Signature.{plain}
-use denote.Steps.{only, heard, nothing}
+use denote.Steps.{only, nothing}
 use denote.Struct.Laws as LL
 use denote.Triple.Statement.{Contract, Triple}
 use denote.Triple.Call.{calls-at}
 use denote.Triple.Entry.{onEntry}
 use denote.Triple.Spec.{Meets, tripleOf}
 use denote.Triple.Walked.{says, Stays, stay-ref, gave-slice, walkOf, goes-ref, goes-gave-slice, ends-at, walked, walk-meets}
-use denote.Triple.Clauses.{Ended, Clauses, closing, ensured, lasts}
+use denote.Triple.Clauses.{Ended, Clauses, closing, lasts}
 use denote.Exit.{yes}
 use Rattle.session.specs.declared.Session.{Session}
 use Rattle.session.specs.declared.Arrival.{Arrival}
@@ -41,8 +42,9 @@ use Rattle.session.proofs.Session as S
 use Rattle.session.proofs.Session.Laws as S′
 use Rattle.session.proofs.Arrival as R
 use Rattle.session.proofs.Arrival.Laws as R′
-use Rattle.session.proofs.Data.{valOf, IsOf, is-val, typed, has, tells, opened, closed}
+use Rattle.session.proofs.Data.{valOf, IsOf, is-val, typed, has, opened, closed}
 use Rattle.session.proofs.Records.{session}
+use Rattle.lent.proofs.Slice.{sliceOf, fills}
 
 -- f's MIR, over the key of g
 abbrev mirOf : Name → Fn
@@ -117,11 +119,8 @@ module _ (k : Name) (left : Session → List Arrival → Session) (filled : Sess
     abbrev x : RefT Session × (RefT (List Arrival) × Unit {0})
     x = (record { ptr = (b, i); name = γ; now = s }, (l, tt))
 
-    abbrev lv : Val
-    lv = sliceVal (l .ptr) (length (now l))
-
     abbrev at : List Val × (List Val × Unit {0})
-    at = (vptr b i ∷ [], (lv ∷ [], tt))
+    at = (vptr b i ∷ [], (sliceOf l ∷ [], tt))
 
     abbrev Post : Val → SProp 𝓤
     Post = walkOf 𝓤 H A f-ended stayed f-clauses .post (((κ, (κ′, tt)), (q, (q′, tt)), tt, x, at), tt)
@@ -130,12 +129,12 @@ module _ (k : Name) (left : Session → List Arrival → Session) (filled : Sess
     Said r zs = (r ≡ left s (now l)) × (zs ≡ filled s (now l))
 
     abbrev to-call : Call .Ghost
-    to-call = (((κ′, tt), (q′, tt), tt, (s, (l, tt)), (valOf session s ∷ [], (lv ∷ [], tt))), tt)
+    to-call = (((κ′, tt), (q′, tt), tt, (s, (l, tt)), (valOf session s ∷ [], (sliceOf l ∷ [], tt))), tt)
 
     goes : IsOf session s (valOf session s)
-        → ent 𝓤 (sep 𝓤 (sep 𝓤 (A .lft κ′ q′) (sem 𝓤 H A ftrue)) (sem 𝓤 H A (fsep (MutSlice (named 1) κ′ R.the-row .own l (lv ∷ [])) ftrue))) (Call .pre to-call)
+        → ent 𝓤 (sep 𝓤 (sep 𝓤 (A .lft κ′ q′) (sem 𝓤 H A ftrue)) (sem 𝓤 H A (fsep (MutSlice (named 1) κ′ R.the-row .own l (sliceOf l ∷ [])) ftrue))) (Call .pre to-call)
     goes is =
-        qed W ((‵ (flft κ′ q′) ⊛ ‵ ftrue) ∷ ‵ (fsep (MutSlice (named 1) κ′ R.the-row .own l (lv ∷ [])) ftrue) ∷ []) ∵
+        qed W ((‵ (flft κ′ q′) ⊛ ‵ ftrue) ∷ ‵ (fsep (MutSlice (named 1) κ′ R.the-row .own l (sliceOf l ∷ [])) ftrue) ∷ []) ∵
         has ! session s _ is $ move ! (0 ∷ 2 ∷ 1 ∷ []) $ fjoin ! $ move ! (1 ∷ 0 ∷ []) $ join ! $ frame ! $ done !
 
     exits : (r : Session) (zs : List Arrival) → Said r zs → length zs ≡ length (now l)
@@ -147,9 +146,9 @@ module _ (k : Name) (left : Session → List Arrival → Session) (filled : Sess
         nothing ! $ move ! (2 ∷ 0 ∷ 1 ∷ []) $ fjoin ! $ move ! (1 ∷ 0 ∷ []) $ fjoin ! $ feqI ! (List Val) (vunit ∷ []) (vunit ∷ []) refl $ move ! (1 ∷ 0 ∷ []) $ done !
 
     module _ (C : Calls 𝓤 H) (Λ : Loops 𝓤 H) (fm : FmC 𝓤 H (W .laws) C) (calls : Triple 𝓤 (C k) Call) where
-      walk : ent 𝓤 (onEntry 𝓤 H A (f-ended .signature) (κ, (κ′, tt)) (q, (q′, tt)) x at) (WpFn 𝓤 H C Λ (mirOf k) (vptr b i ∷ lv ∷ []) Post)
+      walk : ent 𝓤 (onEntry 𝓤 H A (f-ended .signature) (κ, (κ′, tt)) (q, (q′, tt)) x at) (WpFn 𝓤 H C Λ (mirOf k) (vptr b i ∷ sliceOf l ∷ []) Post)
       walk =
-          qed W ((‵ (flft κ q) ⊛ ‵ (flft κ′ q′) ⊛ ‵ ftrue) ∷ ‵ (owns (MutRef (named 0) κ S.the-row ∷ MutSlice (named 1) κ′ R.the-row ∷ []) x at) ∷ []) ∵ enter ! C Λ (mirOf k) (vptr b i ∷ lv ∷ []) _ $
+          qed W ((‵ (flft κ q) ⊛ ‵ (flft κ′ q′) ⊛ ‵ ftrue) ∷ ‵ (owns (MutRef (named 0) κ S.the-row ∷ MutSlice (named 1) κ′ R.the-row ∷ []) x at) ∷ []) ∵ enter ! C Λ (mirOf k) (vptr b i ∷ sliceOf l ∷ []) _ $
           alloc1 ! (λ l₀. alloc1 ! (λ l₁. alloc1 ! (λ l₂. alloc1 ! (λ l₃. alloc1 ! (λ l₄. alloc1 ! (λ l₅. alloc1 ! (λ l₆. alloc0 ! $ params1 ! $
           pass1 ! (init ! 10 refl (tt, tt)) $ pass1 ! (init ! 8 refl (tt, (tt, (record { fits = room .0 }, tt)))) $ pass0 ! $
           move ! (15 ∷ []) $ fsplit ! $ fsplit3 ! $ drop ! $ move ! (17 ∷ []) $ split ! $ move ! (2 ∷ 3 ∷ 0 ∷ []) $ opened ! tt session s b i (λ is₀.
@@ -159,21 +158,18 @@ module _ (k : Name) (left : Session → List Arrival → Session) (filled : Sess
           assigns ! (agg ! (and-then ! (load ! (from ! (stop !)) (look ! 8 refl)) (and-then ! (load ! (from ! (fld ! refl (stop !))) (look-in ! 14 (sub ! 1 refl (whole !)))) (no-more !)))) (from ! (stop !)) (init ! 6 refl (tt, (tt, (record { fits = room .0 }, tt)))) $
           move ! (4 ∷ 5 ∷ []) $ use2 W (raw (Call .pre to-call)) (goes is₀) $
           calls-at ! fm Call calls to-call (and-then ! (load ! (from ! (stop !)) (look ! 9 refl)) (and-then ! (load ! (from ! (stop !)) (look ! 5 refl)) (no-more !))) (λ v.
-          use1 W (later (some (λ (r : Session). ((‵ (flft κ′ q′) ⊛ ‵ ftrue) ⊛ ‵ (S.the-row .own r (v ∷ []))) ⊛ raw (ensured 𝓤 H A g-ended g-clauses (κ′, tt) (s, (l, tt)) tt r)))) (id⊢ 𝓤 _) $ await ! tt $ pick ! (λ r.
-          split ! $ move ! (1 ∷ []) $ use1 W (some (λ (zs : Unit {0} × (List Arrival × Unit {0})). ‵ (lasts g-ended (κ′, tt) (s, (l, tt)) zs) ⊛ raw (fact 𝓤 (Said r (zs .1 .0))))) (id⊢ 𝓤 _) $ pick ! (λ zs.
-          split ! $ move ! (1 ∷ []) $ heard ! (Said r (zs .1 .0)) (λ e. fsplit ! $ drop ! $ fsplit ! $ fsplit ! $ move ! (1 ∷ []) $ feqL ! (λ long.
-          -- [the last list; true; the token with what r owns; the record's cell; …]
-          move ! (2 ∷ []) $ split ! $ move ! (1 ∷ []) $ tells ! session r (v ∷ []) (λ isr.
-          -- [the slice's token; the last list; true; the record's cell; the open borrow; obs; auth; _6; …]
-          land ! (from ! (stop !)) (init ! 13 refl (typed W session r v isr)) $
-          rewrite ! 13 (λ (u : Val). ‵ (fat fullShare S′.mir l₃ 0 u)) (ap only (LL.tells S.the-type S′.the-laws r (v ∷ []) isr)) refl $
-          assigns ! (of-opd ! (load ! (from ! (stop !)) (look ! 13 refl))) (from ! (hop ! (look ! 17 refl) (stop !))) (store-raw ! 3 refl (typed W session r _ (is-val session r v isr))) $
-          assigns ! (of-opd ! (unit-lit !)) (from ! (stop !)) (init ! 19 refl (tt, tt)) $
-          move ! (3 ∷ 4 ∷ 5 ∷ 6 ∷ []) $ closed ! tt session s r b i (is-val session r v isr) $
-          -- [obs; the borrow; the token; the slice's token; the last list; true; _6; …; _0; …]
-          returns ! (look ! 18 refl) $ forget ! 6 refl $ forget ! 8 refl $ forget ! 10 refl $ forget ! 12 refl $ forget ! 14 refl $ forget ! 16 refl $ forget ! 18 refl $
-          move ! (18 ∷ 19 ∷ []) $ free1 ! $ move ! (16 ∷ 17 ∷ []) $ free1 ! $ move ! (14 ∷ 15 ∷ []) $ free1 ! $ move ! (12 ∷ 13 ∷ []) $ free1 ! $ move ! (10 ∷ 11 ∷ []) $ free1 ! $ move ! (8 ∷ 9 ∷ []) $ free1 ! $ move ! (6 ∷ 7 ∷ []) $ free1 ! $ free0 ! $
-          keep ! (0 ∷ 1 ∷ 2 ∷ 3 ∷ 4 ∷ []) $ by ! (exits r (zs .1 .0) e long)))))))))))))))
+          fills ! tt S.the-row R.the-row l v (‵ (flft κ′ q′) ⊛ ‵ ftrue) (Call .post to-call v) (Unit {0} × (List Arrival × Unit {0})) (lasts g-ended (κ′, tt) (s, (l, tt))) (λ ws. ws .1 .0) Said
+          (id⊢ 𝓤 _) (λ ws. qed W (‵ (lasts g-ended (κ′, tt) (s, (l, tt)) ws) ∷ []) ∵ fsplit ! $ drop ! $ fsplit ! $ keep ! (0 ∷ []) $ done !) (λ r zs e long isr.
+          -- [the last list; the slice's token; the record's cell; the open borrow; obs; auth; _6; …]
+          land ! (from ! (stop !)) (init ! 12 refl (typed W session r v isr)) $
+          rewrite ! 12 (λ (u : Val). ‵ (fat fullShare S′.mir l₃ 0 u)) (ap only (LL.tells S.the-type S′.the-laws r (v ∷ []) isr)) refl $
+          assigns ! (of-opd ! (load ! (from ! (stop !)) (look ! 12 refl))) (from ! (hop ! (look ! 16 refl) (stop !))) (store-raw ! 2 refl (typed W session r _ (is-val session r v isr))) $
+          assigns ! (of-opd ! (unit-lit !)) (from ! (stop !)) (init ! 18 refl (tt, tt)) $
+          move ! (2 ∷ 3 ∷ 4 ∷ 5 ∷ []) $ closed ! tt session s r b i (is-val session r v isr) $
+          -- [obs; the borrow; the token; the last list; the slice's token; _6; …; _0; …]
+          returns ! (look ! 17 refl) $ forget ! 5 refl $ forget ! 7 refl $ forget ! 9 refl $ forget ! 11 refl $ forget ! 13 refl $ forget ! 15 refl $ forget ! 17 refl $
+          move ! (17 ∷ 18 ∷ []) $ free1 ! $ move ! (15 ∷ 16 ∷ []) $ free1 ! $ move ! (13 ∷ 14 ∷ []) $ free1 ! $ move ! (11 ∷ 12 ∷ []) $ free1 ! $ move ! (9 ∷ 10 ∷ []) $ free1 ! $ move ! (7 ∷ 8 ∷ []) $ free1 ! $ move ! (5 ∷ 6 ∷ []) $ free1 ! $ free0 ! $
+          keep ! (0 ∷ 1 ∷ 2 ∷ 4 ∷ 3 ∷ []) $ by ! (exits r zs e long)))))))))))
 
   pub meets : (W : Given 𝓤 H A) (𝓣 : Tables 𝓤 H) → Triple 𝓤 (𝓣 .C k) Call
       → Meets 𝓤 H A (f-ended .signature) (WpFn 𝓤 H (𝓣 .C) (𝓣 .Λ) (mirOf k)) (closing 𝓤 H A f-ended f-clauses)

@@ -1,12 +1,15 @@
 // The calls on a session record that the host lends (docs/SPECIFICATION.md §5.8). Each hands the record to the call by
 // value and writes back the session that it leaves, so that a refused call writes back the same value.
 ghost use mathlib.Core.Path.{_≡_};
+ghost use lib.ListN.{length};
 ghost use Rattle.table.specs.Verdict.{opinionOf};
 ghost use Rattle.table.specs.Opinion.{Says};
 ghost use Rattle.session.specs.Start.{startOf};
 ghost use Rattle.session.specs.Calls.{arriveOf, chooseOf, advanceOf, finishOf};
 ghost use Rattle.session.specs.Batch.{afterAll, answeredAll};
+ghost use Rattle.explain.specs.Explain.{toldOf, bufferOf};
 ghost use Rattle.lent.specs.Reply.{replyOf, openingOf};
+use explain::Told;
 use session::Answer;
 use session::Arrival;
 use session::Outcome;
@@ -89,4 +92,11 @@ pub fn start(s: &mut Session, words: &[u32]) -> Opening
     let o = session::start::start_on(*s, words);
     *s = o.session;
     opened(o)
+}
+
+// The text of what choose answers on these words, and why, in a buffer of the host. The record is only read.
+pub fn explain(s: &Session, words: &[u32], out: &mut [u8]) -> Told
+    ensures { λ r. ⌜ (r ≡ toldOf (now (s .entry)) (now (words .entry)) (length (now (out .entry)))) × (now (out .exit) ≡ bufferOf (now (s .entry)) (now (words .entry)) (now (out .entry))) ⌝ }
+{
+    explain::tell(*s, words, out)
 }

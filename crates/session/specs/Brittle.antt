@@ -61,7 +61,8 @@ mixed-row s f = by (facts-kind s f)
 
 -- ---- the brittle deadline
 
-abbrev dueTo : Session → ℕ → ℕ
+-- over the first n rows
+abbrev pub dueTo : Session → ℕ → ℕ
 dueTo s n = foldTo (λ m j. cond (brittle (tasks s) j) (min m (nextDue s j)) m) far n
 
 -- it is no later than the next deadline of any brittle row,

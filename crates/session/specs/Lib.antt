@@ -2,6 +2,7 @@ pub mod Reading
 pub mod Sound
 pub mod Order
 pub mod Before
+pub mod Ranked
 pub mod First
 pub mod Alone
 pub mod Choose

@@ -23,7 +23,7 @@ after-all zero (r ∷ l) h = absurd (omega arith)
 after-all (suc k) [] h = refl
 after-all (suc k) (r ∷ l) h = after-all k l (omega arith)
 
-either-none : (b : Bool) → _≡_ {A = List ℕ} (cond b [] []) []
+pub either-none : (b : Bool) → _≡_ {A = List ℕ} (cond b [] []) []
 either-none true = refl
 either-none false = refl
 

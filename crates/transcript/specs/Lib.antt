@@ -5,6 +5,7 @@ pub mod Table
 pub mod Kept
 pub mod Short
 pub mod Plays
+pub mod Opening
 pub mod Entry
 pub mod Empty
 pub mod Alone

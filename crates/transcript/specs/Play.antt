@@ -7,13 +7,14 @@ use native.Mathlib.Numerals.{add-one}
 use native.Mathlib.Omega.{arith}
 use lib.Dec.{leb, ltb, eqb}
 use lib.ListN.{length, take, drop, set, length-set}
-use lib.Seq.{take-nil, drop-drop, drop-append-le, length-slice, length-take-le, take-suc-set}
+use lib.Seq.{take-nil, drop-drop, drop-append-le, length-slice, length-take-le, take-suc-set, take-set-le}
 use borrow.Author.Tests.{lt-ltb, le-ltb}
 use Rattle.bounded.specs.Tests.{both}
 use Rattle.decimal.specs.Buffer.{Wrote, wrote-none}
 use Rattle.lines.specs.declared.read.Call.{Call}
 use Rattle.lines.specs.declared.read.Call.the-variants.{Arrive, Choose, Advance, Finish}
-use Rattle.lines.specs.declared.read.Line.the-variants.{Word, Call as CallLine}
+use Rattle.lines.specs.declared.read.Line.{Line}
+use Rattle.lines.specs.declared.read.Line.the-variants.{Row, Word, Call as CallLine, Empty, Unreadable}
 use Rattle.lines.specs.Text.{lineText}
 use Rattle.session.specs.declared.Session.{Session}
 use Rattle.session.specs.declared.Answer.{Answer}
@@ -29,6 +30,14 @@ use Rattle.transcript.specs.Step.{Step, queueLimit, letterOf, callOf, an
 -- the words that wait, among all words queued so far
 abbrev pub queueOf : List ℕ → Play → List ℕ
 queueOf w p = drop (p .from) (take (p .to) w)
+
+-- how many words a line queues
+abbrev pub wordsIn : Line → ℕ
+wordsIn (Row c t d) = 0
+wordsIn (Word w) = 1
+wordsIn (CallLine c) = 0
+wordsIn Empty = 0
+wordsIn Unreadable = 0
 
 -- there is room for a line in the buffer, and the count of lines does not wrap
 pub record Room (p : Play) (out : List ℕ) : Type 0 where
@@ -67,6 +76,8 @@ pub record Did (k : ℕ) (x : Step) (s : Session) (p r : Play) (w v before after
   pub over : r .over ≡ x .ends
   pub line : r .over ≡ false → r .line ≡ p .line + 1
   pub words : length v ≡ length w
+  -- the words that waited stay in their places
+  pub waited : take (p .to) v ≡ take (p .to) w
 
 -- a word's line, with any session that shows this clock
 pub record Queued (clock w : ℕ) (p r : Play) (words words′ before after : List ℕ) : Type 0 where
@@ -111,6 +122,7 @@ module _ (p r : Play) (words before after : List ℕ) (order : p .from ≤ p .to
     over = u .over;
     line = λ z. absurd (true≢false (sym (u .over) ∙ z));
     words = refl;
+    waited = refl;
   }
 
 -- ---- words
@@ -134,6 +146,7 @@ module _ (clock : ℕ) (p : Play) (w : ℕ) (words before : List ℕ) (ready : R
               over = refl;
               line = λ z. refl;
               words = length-set words (p .to) w;
+              waited = take-set-le (p .to) words (p .to) w (omega arith);
             };
       }
 
@@ -212,4 +225,43 @@ module _ (s : Session) (c : Call) (p : Play) (l words before : List ℕ) (ready 
         over = t .over;
         line = λ z. t .line;
         words = refl;
+        waited = refl;
       }
+
+-- ---- any line
+
+pub step-tells : (s : Session) (c : Call) (p : Play) (l words before : List ℕ) → Ready p words before → l ≡ queueOf words p → (o : Outcome) → o ≡ callOf s l c
+    → Room p before × (p .from + o .used ≤ p .to)
+step-tells s c p l words before ready e o f =
+    (record { room = ready .room; count = ready .count }, used-order s c p l words before ready e o f)
+
+module _ (s : Session) (p : Play) (x : Line) (words before : List ℕ) (ready : Ready p words before) where
+  -- the line did what its step says
+  abbrev StepDid : Session → Play → List ℕ → List ℕ → Type 0
+  StepDid s′ r words′ after = Did (wordsIn x) (stepOf s (queueOf words p) (p .line) x) s′ p r words words′ before after
+
+  pub step-place : (w : ℕ) → x ≡ Word w → p .to + wordsIn x ≤ length words → p .to < length words
+  step-place w e h = omega (arith, ap wordsIn e)
+
+  pub step-word : (w : ℕ) (r : Play) (words′ after : List ℕ) → x ≡ Word w → Queued (s .clock) w p r words words′ before after → StepDid s r words′ after
+  step-word w r words′ after e q = rw e (q .did s refl)
+
+  module _ (c : Call) (e : x ≡ CallLine c) (l : List ℕ) (o : Outcome) (f : o ≡ callOf s l c) (g : l ≡ queueOf words p) where
+    pub step-call : (letter : ℕ) (r : Play) (after : List ℕ) → letter ≡ letterOf c
+        → Told (answerText (o .session .clock) letter (o .answer)) (o .used) p r before after → StepDid (o .session) r words after
+    step-call letter r after k u = rw e (did-call s c p l words before ready g o f letter r after k u)
+
+  module _ (r : Play) (after : List ℕ) (u : Unread (s .clock) p r before after) where
+    pub step-row : (c t d : ℕ) → x ≡ Row c t d → StepDid s r words after
+    unfolding stepOf
+    step-row c t d e = rw e (did-unread p r words before after (ready .order) s u 0)
+
+    pub step-empty : x ≡ Empty → StepDid s r words after
+    unfolding stepOf
+    step-empty e = rw e (did-unread p r words before after (ready .order) s u 0)
+
+    pub step-unreadable : x ≡ Unreadable → StepDid s r words after
+    unfolding stepOf
+    step-unreadable e = rw e (did-unread p r words before after (ready .order) s u 0)
+
+pub ruleset step-laws = (step-place, step-word, step-call, step-row, step-empty, step-unreadable)

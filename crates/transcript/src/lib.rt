@@ -7,13 +7,11 @@ ghost use Rattle.lines.specs.Lines.{linesOf};
 ghost use Rattle.transcript.specs.Transcript.{inputLimit, printedOf, roomFor, Transcribed};
 ghost use Rattle.transcript.specs.Plays.{roomOf};
 use report::least;
-use session::Session;
-use session::start::start_by;
-use step::Play;
 
+pub mod opening;
 mod play;
 mod rows;
-mod step;
+pub mod step;
 
 // How many bytes of the input are read.
 const INPUT: usize = 65536;
@@ -33,26 +31,12 @@ fn print(text: &[u8], out: &mut [u8]) -> usize
     requires { ⌜ (length (now text) ≤ inputLimit) × (roomOf (now text) ≤ length (now out)) ⌝ }
     ensures { λ r. ⌜ Wrote (roomOf (now (text .entry))) (printedOf (linesOf (now (text .entry)))) (now (out .entry)) (now (out .exit)) 0 r ⌝ }
 {
-    let t = rows::read_rows(text);
-    let words = t.words;
-    let count = t.count;
-    let e = 3 * count;
-    let line = (count as u64) + 1;
-    let judgement = table::opinion(&words[..e]);
-    let end = report::put_opinion(out, 0, judgement, count);
-    let verdict = judgement.verdict;
-    let n = table::shown(verdict);
-    if n.number != 0 {
-        return end;
+    let t = opening::begin(text, out);
+    let p = t.play;
+    if p.over {
+        return p.end;
     }
-    let session = start_by(Session::none(), &words[..e], verdict);
-    let p = Play {
-        from: 0,
-        to: 0,
-        line,
-        end,
-        over: false,
-    };
+    let session = t.session;
     play::play(text, t.at, session, p, out)
 }
 

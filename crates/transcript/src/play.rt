@@ -4,12 +4,7 @@ ghost use mathlib.Core.List.{[]};
 ghost use Rattle.decimal.specs.Buffer.{Wrote};
 ghost use Rattle.transcript.specs.Plays.{roomOf, Begun, owed};
 use crate::step::Play;
-use crate::step::call;
-use crate::step::letter;
-use crate::step::queue;
-use crate::step::refuse;
-use crate::step::tell;
-use lines::read::Line;
+use crate::step::step;
 use lines::read::next_line;
 use session::Session;
 
@@ -26,32 +21,11 @@ pub fn play(text: &[u8], start: usize, session: Session, first: Play, out: &mut 
         let n = next_line(text, at);
         let line = n.line;
         at = n.at;
-        match line {
-            Line::Word(w) => {
-                p = queue(p, s.clock, w, &mut words, out);
-                if p.over {
-                    return p.end;
-                }
-                continue;
-            }
-            Line::Call(c) => {
-                let from = p.from;
-                let to = p.to;
-                let o = call(s, c, &words[from..to]);
-                let answer = o.answer;
-                s = o.session;
-                p = tell(p, letter(c), s.clock, answer, o.used, out);
-                continue;
-            }
-            Line::Row { .. } => {
-                return refuse(p, s.clock, out).end;
-            }
-            Line::Empty => {
-                return refuse(p, s.clock, out).end;
-            }
-            Line::Unreadable => {
-                return refuse(p, s.clock, out).end;
-            }
+        let t = step(s, p, line, &mut words, out);
+        s = t.session;
+        p = t.play;
+        if p.over {
+            return p.end;
         }
     }
     p.end

@@ -1,12 +1,13 @@
-// One line after the table (docs/SPECIFICATION.md §8.4).
+// One line after the table (docs/SPECIFICATION.md §8.4). Internal: public for `narration`, which tells the same lines.
 ghost use mathlib.Core.Path.{_≡_};
 ghost use mathlib.Core.Bool.{true};
 ghost use Prim.Native.Nat.{_+_, _≤_, _<_};
 ghost use lib.ListN.{length};
 ghost use Rattle.session.specs.Sound.{sound};
-ghost use Rattle.transcript.specs.Step.{letterOf, callOf, answerText};
-ghost use Rattle.transcript.specs.Play.{Room, Ready, Told, Unread, Queued};
+ghost use Rattle.transcript.specs.Step.{letterOf, callOf, answerText, stepOf};
+ghost use Rattle.transcript.specs.Play.{Room, Ready, Told, Unread, Queued, Did, queueOf, wordsIn};
 use lines::read::Call;
+use lines::read::Line;
 use lines::write::put_line;
 use session::Answer;
 use session::Outcome;
@@ -26,7 +27,13 @@ pub struct Play {
     pub over: bool,
 }
 
-pub fn letter(c: Call) -> u8
+// What a line leads to.
+pub struct Stepped {
+    pub session: Session,
+    pub play: Play,
+}
+
+fn letter(c: Call) -> u8
     ensures { λ r. ⌜ r ≡ letterOf c ⌝ }
 {
     match c {
@@ -38,7 +45,7 @@ pub fn letter(c: Call) -> u8
 }
 
 // `words` are those that wait. The session is sound, so no check is made.
-pub fn call(s: Session, c: Call, words: &[u32]) -> Outcome
+fn call(s: Session, c: Call, words: &[u32]) -> Outcome
     requires { ⌜ sound s ≡ true ⌝ }
     ensures { λ r. ⌜ r ≡ callOf s (now (words .entry)) c ⌝ }
 {
@@ -51,7 +58,7 @@ pub fn call(s: Session, c: Call, words: &[u32]) -> Outcome
 }
 
 // Prints the answer of a call that used so many words, with the clock after it.
-pub fn tell(p: Play, letter: u8, clock: u64, answer: Answer, used: u64, out: &mut [u8]) -> Play
+fn tell(p: Play, letter: u8, clock: u64, answer: Answer, used: u64, out: &mut [u8]) -> Play
     requires { ⌜ Room p (now out) × (p .from + used ≤ p .to) ⌝ }
     ensures { λ r. ⌜ Told (answerText clock letter answer) used p r (now (out .entry)) (now (out .exit)) ⌝ }
 {
@@ -67,7 +74,7 @@ pub fn tell(p: Play, letter: u8, clock: u64, answer: Answer, used: u64, out: &mu
 }
 
 // Prints that the line is unreadable; output ends.
-pub fn refuse(p: Play, clock: u64, out: &mut [u8]) -> Play
+fn refuse(p: Play, clock: u64, out: &mut [u8]) -> Play
     requires { ⌜ Room p (now out) ⌝ }
     ensures { λ r. ⌜ Unread clock p r (now (out .entry)) (now (out .exit)) ⌝ }
 {
@@ -79,7 +86,7 @@ pub fn refuse(p: Play, clock: u64, out: &mut [u8]) -> Play
 }
 
 // A word joins those that wait; where they are too many, the line counts as unreadable.
-pub fn queue(p: Play, clock: u64, w: u32, words: &mut [u32], out: &mut [u8]) -> Play
+fn queue(p: Play, clock: u64, w: u32, words: &mut [u32], out: &mut [u8]) -> Play
     requires { ⌜ Ready p (now words) (now out) × (p .to < length (now words)) ⌝ }
     ensures { λ r. ⌜ Queued clock w p r (now (words .entry)) (now (words .exit)) (now (out .entry)) (now (out .exit)) ⌝ }
 {
@@ -94,4 +101,28 @@ pub fn queue(p: Play, clock: u64, w: u32, words: &mut [u32], out: &mut [u8]) -> 
         return q;
     }
     refuse(p, clock, out)
+}
+
+// One line of any kind. The session is sound, and there is room for a line and for a word.
+pub fn step(s: Session, p: Play, line: Line, words: &mut [u32], out: &mut [u8]) -> Stepped
+    requires { ⌜ (sound s ≡ true) × Ready p (now words) (now out) × (p .to + wordsIn line ≤ length (now words)) ⌝ }
+    ensures { λ r. ⌜ Did (wordsIn line) (stepOf s (queueOf (now (words .entry)) p) (p .line) line) (r .session) p (r .play) (now (words .entry)) (now (words .exit)) (now (out .entry)) (now (out .exit)) ⌝ }
+{
+    let clock = s.clock;
+    let play = match line {
+        Line::Word(w) => queue(p, clock, w, words, out),
+        Line::Call(c) => {
+            let from = p.from;
+            let to = p.to;
+            let o = call(s, c, &words[from..to]);
+            let answer = o.answer;
+            let session = o.session;
+            let play = tell(p, letter(c), session.clock, answer, o.used, out);
+            return Stepped { session, play };
+        }
+        Line::Row { .. } => refuse(p, clock, out),
+        Line::Empty => refuse(p, clock, out),
+        Line::Unreadable => refuse(p, clock, out),
+    };
+    Stepped { session: s, play }
 }

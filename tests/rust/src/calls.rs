@@ -189,7 +189,7 @@ pub fn lengths(session: &Session, row: u32) -> Option<u32> {
 
 /// The remaining ticks of a candidate. Idle has none, and gets the horizon where
 /// nothing waits; every budget, at most D − C, is below that.
-fn remaining(session: &Session, row: u32) -> u64 {
+pub(crate) fn remaining(session: &Session, row: u32) -> u64 {
     session.job(row).map_or(HORIZON, |job| job.left)
 }
 

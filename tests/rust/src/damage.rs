@@ -141,7 +141,11 @@ fn replace(rng: &mut Rng, text: &mut [u8], fits: fn(u8) -> bool, to: fn(u8) -> u
 }
 
 /// Edits the list of lines, given two random places in it.
-fn edit_lines(rng: &mut Rng, text: &mut Vec<u8>, edit: fn(&mut Vec<&[u8]>, usize, usize)) {
+pub(crate) fn edit_lines(
+    rng: &mut Rng,
+    text: &mut Vec<u8>,
+    edit: fn(&mut Vec<&[u8]>, usize, usize),
+) {
     let mut lines: Vec<&[u8]> = text.split_inclusive(|byte| *byte == b'\n').collect();
     let one = rng.below(lines.len());
     let other = rng.below(lines.len());

@@ -43,7 +43,7 @@ impl<'a> Draw<'a> {
         }
     }
 
-    fn passes(&self) -> bool {
+    pub(crate) fn passes(&self) -> bool {
         !self.split().0.is_empty()
     }
 

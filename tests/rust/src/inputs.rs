@@ -254,7 +254,7 @@ fn long_draws(rng: &mut Rng) -> Vec<u8> {
     drawing_run(rng, roomy_rows, 200)
 }
 
-fn mixed_draws(rng: &mut Rng) -> Vec<u8> {
+pub(crate) fn mixed_draws(rng: &mut Rng) -> Vec<u8> {
     drawing_run(rng, mixed_rows, 100)
 }
 
@@ -278,7 +278,7 @@ fn word_lists(rng: &mut Rng) -> Vec<u8> {
     driver.text
 }
 
-fn long_run(rng: &mut Rng) -> Vec<u8> {
+pub(crate) fn long_run(rng: &mut Rng) -> Vec<u8> {
     let makers: [RowMaker; 5] = [
         light_rows,
         small_rows,
@@ -291,7 +291,7 @@ fn long_run(rng: &mut Rng) -> Vec<u8> {
 }
 
 /// Idles to just below 2^32, so that clock and deadlines pass it.
-fn far_clock(rng: &mut Rng) -> Vec<u8> {
+pub(crate) fn far_clock(rng: &mut Rng) -> Vec<u8> {
     let makers: [RowMaker; 3] = [small_rows, staggered_rows, part_brittle_rows];
     let make = rng.pick(&makers);
     let mut driver = Driver::new(&admitted(rng, make));

@@ -8,6 +8,12 @@ pub mod damage;
 pub mod desks;
 pub mod draws;
 pub mod driver;
+pub mod explained;
+pub mod explained_inputs;
+pub mod explanation;
+pub mod explanation_reader;
+pub mod explanation_text;
+pub mod explanations;
 pub mod gifts;
 pub mod hard;
 pub mod inputs;
@@ -19,6 +25,7 @@ pub mod overloaded;
 pub mod overloads;
 pub mod parts;
 pub mod plans;
+pub mod printed_parts;
 pub mod process;
 pub mod questions;
 pub mod readings;
@@ -32,6 +39,8 @@ pub mod session;
 pub mod sessions;
 pub mod shrink;
 #[cfg(feature = "host")]
+// `record` declares one function again, with a raw pointer; it says why.
+#[allow(clashing_extern_declarations)]
 #[path = "../../../bindings/rust/shuffle.rs"]
 pub mod shuffle;
 pub mod sixteen;
@@ -41,5 +50,6 @@ pub mod table;
 pub mod tables;
 pub mod tally;
 pub mod text;
+pub mod texts;
 pub mod ties;
 pub mod words;

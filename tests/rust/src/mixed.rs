@@ -671,7 +671,7 @@ const HELD: [HeldSort; 11] = [
     held("have idle in force though a job waits", 500, |held| {
         held.has_choice(|_, choice| choice.row == IDLE)
     }),
-    held("have a job in force that is due too late", 500, |held| {
+    held("have a job in force that is due too late", 600, |held| {
         held.has_choice(|session, choice| {
             let due = session.job(choice.row).map(|job| job.due);
             due > session.brittle_deadline() && session.in_order()[0] != choice.row

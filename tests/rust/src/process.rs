@@ -20,8 +20,10 @@ pub fn serve(limit: usize, run: fn(&[u8]) -> Vec<u8>) -> io::Result<()> {
 
 /// A program that takes longer hangs.
 const TIME_LIMIT: Duration = Duration::from_secs(20);
-/// Far above any right output; a program that never stops printing ends here.
-const OUTPUT_LIMIT: u64 = 1 << 24;
+/// Above any right output; a program that never stops printing ends here. Most comes of
+/// `explained`, where six bytes of input, a choice and an advance, can give a text of 16
+/// jobs, some 1,400 bytes: in all some 15,000,000.
+const OUTPUT_LIMIT: u64 = 1 << 25;
 
 /// A program with the arguments before it, such as those of a checker.
 pub struct Program {

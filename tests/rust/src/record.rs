@@ -2,6 +2,7 @@
 //! of the record.
 
 use crate::calls::{arrive_all, perform, Answer, Arrival, Call};
+use crate::explanation_text::explain_into;
 use crate::meter::Question;
 use crate::session::{Choice, Job, Session, Slot};
 use crate::shuffle::{self, Judgement, Reply, Session as Record};
@@ -259,4 +260,42 @@ pub fn ask_library(question: &Question, rows: &[u8]) -> Reply {
         ..
     } = *question;
     shuffle::meter(rows, stretches, ticks, window, threshold as u64)
+}
+
+// SAFETY: this is the library's signature. The record is passed as a raw pointer and not as
+// a reference, so that the compiler takes none of its bytes as unchanged by the call, and a
+// comparison with what it was before means something. The words, and the buffer, are pointer
+// and length of one slice.
+unsafe extern "C" {
+    fn shuffle_explain(
+        session: *const Record,
+        words: *const u32,
+        n: usize,
+        buffer: *mut u8,
+        size: usize,
+    ) -> Reply;
+}
+
+/// The library's explanation of a choice with these words, its text in the buffer.
+pub fn explain_by_library(record: &mut Record, words: &[u32], buffer: &mut [u8]) -> Reply {
+    // SAFETY: each slice is passed whole. Nothing overlaps: record and buffer are borrowed for
+    // change.
+    unsafe {
+        shuffle_explain(
+            record,
+            words.as_ptr(),
+            words.len(),
+            buffer.as_mut_ptr(),
+            buffer.len(),
+        )
+    }
+}
+
+/// The answer to that call; the buffer becomes what the call must leave of it. The record
+/// stays.
+pub fn expected_explanation(record: &Record, words: &[u32], buffer: &mut [u8]) -> Reply {
+    let session = view(record);
+    session.map_or(UNSOUND, |session| {
+        reply_of(explain_into(&session, words, buffer))
+    })
 }

@@ -1,4 +1,5 @@
-//! Random tables of 16 rows, as a planning desk has them: for measurements.
+//! Random tables of 16 rows, as a planning desk has them: for measurements, and for
+//! explanations of many jobs.
 
 use std::iter::repeat_with;
 
@@ -78,12 +79,21 @@ pub const CLASSES: [Class; 5] = [
     },
 ];
 
+/// A random table of a class.
+pub fn random_table(rng: &mut Rng, class: &Class) -> Vec<Row> {
+    loop {
+        let rows = plant(rng, class.load);
+        if (class.is_wanted)(&opinion_on(&rows)) {
+            return rows;
+        }
+    }
+}
+
 /// So many tables of a class, the same ones each time.
 pub fn tables(class: &Class, count: usize) -> Vec<Vec<Row>> {
     let mut rng = Rng::new(8);
-    let all = repeat_with(|| plant(&mut rng, class.load));
-    let wanted = all.filter(|rows| (class.is_wanted)(&opinion_on(rows)));
-    wanted.take(count).collect()
+    let all = repeat_with(|| random_table(&mut rng, class));
+    all.take(count).collect()
 }
 
 /// How many tables are loose, tight, mixed, and refused.

@@ -1,20 +1,25 @@
 //! Compares the library with the model, call by call, on records of any
 //! content: the answer, soundness and every byte of the record; of a start also the
-//! whole opinion on its table; and of a batch, which lets a list of rows arrive in one
-//! call, the whole list. The meter, which has no record, is compared by `meters`.
+//! whole opinion on its table; of a batch, which lets a list of rows arrive in one call, the
+//! whole list; and of an explanation every byte of the buffer. The meter, which has no
+//! record, is compared by `meters`.
 
 use std::process::exit;
 use std::time::Instant;
 
 use shuffle_model::batches::{Batch, BatchTally};
 use shuffle_model::draws::{Drawn, DrawnChoices};
+use shuffle_model::explanation::explain_sound;
+use shuffle_model::explanation_text::BUFFER_LEAST;
+use shuffle_model::explanations::{ExplanationCalls, Told};
 use shuffle_model::gifts::FinishTally;
 use shuffle_model::mixed::{HeldTally, MixedCalls};
 use shuffle_model::options::Options;
 use shuffle_model::overloaded::{late_overload_rows, overloaded_rows, shorten};
 use shuffle_model::overloads::OverloadTally;
 use shuffle_model::record::{
-    answered, expected, expected_batch, expected_start, is_sound, judgement_of, view, Request,
+    answered, expected, expected_batch, expected_explanation, expected_start, explain_by_library,
+    is_sound, judgement_of, view, Request,
 };
 use shuffle_model::records::{
     displace, make_ready, random_list, random_record, random_row, sound_record,
@@ -39,8 +44,8 @@ const DEFAULT_SEED: u64 = 20_250_301;
 /// The answer numbers of the calls on records: 0 to 12.
 const NUMBERS: usize = 13;
 /// From this many calls on, each sort of tie must have been reached, and each
-/// sort of finish, of batch, of draw, of overload, of start, and of what has to do with
-/// brittle rows often enough.
+/// sort of finish, of batch, of draw, of overload, of start, of explanation, and of what has
+/// to do with brittle rows often enough.
 const FULL_CALLS: u64 = 1_000_000;
 /// Most calls of a history.
 const STEPS: u32 = 400;
@@ -51,8 +56,16 @@ const START_STEP: usize = 60;
 /// Of the steps of a history, one in so many is a batch.
 const BATCH_STEP: usize = 10;
 /// Of the choices of a history, one in so many gets a list of words near the limits
-/// of its draws.
+/// of its draws; and so many of its explanations.
 const LIST_STEP: usize = 4;
+/// Of the steps of a history at which a choice could be made, one in so many is an
+/// explanation; and of the other steps.
+const EXPLAIN_STEP: usize = 5;
+const REFUSED_EXPLAIN_STEP: usize = 60;
+/// The sizes of buffers for an explanation; below 2,048 it is refused.
+const SIZES: [usize; 10] = [0, 1, 2047, 2048, 2048, 2048, 2049, 2049, 3000, 3000];
+/// Bytes before and behind a buffer, which no call may change.
+const MARGIN: usize = 64;
 
 /// Where the record of a call comes from.
 #[derive(Clone, Copy, Debug)]
@@ -76,6 +89,7 @@ fn main() {
         rng: Rng::new(options.number("--seed", DEFAULT_SEED)),
         counts: [[0; NUMBERS]; SOURCES.len()],
         batch_counts: [0; SOURCES.len()],
+        explain_counts: [0; SOURCES.len()],
         sound: 0,
         ties: TiedChoices::default(),
         finishes: FinishTally::default(),
@@ -85,6 +99,7 @@ fn main() {
         mixed: MixedCalls::default(),
         held: HeldTally::default(),
         starts: StartTally::default(),
+        explanations: ExplanationCalls::default(),
         one_by_one: 0,
     };
     test.no_session();
@@ -107,6 +122,7 @@ fn main() {
     gaps.extend(test.mixed.gaps(Among::Calls(test.calls())));
     gaps.extend(test.held.gaps(test.calls()));
     gaps.extend(test.starts.gaps(test.calls()));
+    gaps.extend(test.explanations.gaps(test.calls()));
     if calls >= FULL_CALLS && !gaps.is_empty() {
         println!("FAILED: {}", gaps.join(", "));
         exit(1);
@@ -119,6 +135,8 @@ struct Test {
     counts: [[u64; NUMBERS]; SOURCES.len()],
     /// Batches by source.
     batch_counts: [u64; SOURCES.len()],
+    /// Explanations by source.
+    explain_counts: [u64; SOURCES.len()],
     /// Calls on sound records.
     sound: u64,
     ties: TiedChoices,
@@ -129,6 +147,7 @@ struct Test {
     mixed: MixedCalls,
     held: HeldTally,
     starts: StartTally,
+    explanations: ExplanationCalls,
     /// Batches whose rows also arrived one by one, on a copy.
     one_by_one: u64,
 }
@@ -140,8 +159,8 @@ impl Test {
     }
 
     fn calls_of(&self, source: Source) -> u64 {
-        let counts = self.counts[source as usize].iter();
-        counts.sum::<u64>() + self.batch_counts[source as usize]
+        let counts = self.counts[source as usize].iter().sum::<u64>();
+        counts + self.batch_counts[source as usize] + self.explain_counts[source as usize]
     }
 
     fn count_of(&self, number: usize) -> u64 {
@@ -172,6 +191,9 @@ impl Test {
                     displace(&mut self.rng, &mut record);
                 }
                 self.each_call(Source::Near, &record);
+                if self.rng.chance(1, 2) {
+                    self.explain_open_record();
+                }
             }
             Source::History => match self.rng.below(8) {
                 0 => self.planner(),
@@ -182,7 +204,7 @@ impl Test {
     }
 
     /// Each of the four calls on its own copy of a record, often a batch, and now
-    /// and then a start over it.
+    /// and then a start over it, or an explanation.
     fn each_call(&mut self, source: Source, record: &Record) {
         let mut requests = four_calls(&mut self.rng, record);
         if self.rng.chance(1, 8) {
@@ -199,6 +221,25 @@ impl Test {
             }
             self.batch(source, &mut copy);
         }
+        if self.rng.chance(1, 8) {
+            let words = words_for_choice(&mut self.rng, record);
+            self.explain(source, record, &words);
+        }
+    }
+
+    /// An explanation of a record in which no choice is in force, and which is sound but
+    /// for a part of them. Of some records it takes the one in which most jobs wait.
+    fn explain_open_record(&mut self) {
+        let records = self.rng.pick(&[1, 1, 1, 6]);
+        let records = (0..records).map(|_| sound_record(&mut self.rng));
+        let most = records.max_by_key(waiting_jobs);
+        let mut record = most.expect("there is a record");
+        record.span = 0;
+        if self.rng.chance(1, 8) {
+            displace(&mut self.rng, &mut record);
+        }
+        let words = words_for_choice(&mut self.rng, &record);
+        self.explain(Source::Near, &record, &words);
     }
 
     /// A list of calls on one record, each getting what the last one left.
@@ -255,6 +296,7 @@ impl Test {
             let reply = self.check(Source::Bytes, &mut record, &request);
             assert_eq!((reply.number, record), (number, Record::NONE));
         }
+        self.explain(Source::Bytes, &Record::NONE, &[1, 2]);
     }
 
     /// A million words for a choice between three: every one is passed over, or
@@ -271,6 +313,7 @@ impl Test {
             let mut copy = record;
             let reply = self.check(Source::History, &mut copy, &Request::Choose(words.clone()));
             assert_eq!(reply.used, 1_000_000);
+            self.explain(Source::History, &record, &words);
         }
     }
 
@@ -300,6 +343,18 @@ impl Test {
         if self.rng.chance(1, START_STEP) {
             let words = self.other_words();
             self.check(Source::History, record, &Request::Start(words));
+            return true;
+        }
+        let explain_step = match session.choice {
+            None => EXPLAIN_STEP,
+            Some(_) => REFUSED_EXPLAIN_STEP,
+        };
+        if self.rng.chance(1, explain_step) {
+            let mut words = queue.clone();
+            if self.rng.chance(1, LIST_STEP) {
+                words.extend(more_words(&mut self.rng, &session, queue));
+            }
+            self.explain(Source::History, record, &words);
             return true;
         }
         let words = std::mem::take(queue);
@@ -459,6 +514,47 @@ impl Test {
         expected
     }
 
+    /// Asks for an explanation, in a buffer of some size, and compares the answer, every
+    /// byte of the buffer and around it, and the record, which must stay; a disagreement
+    /// ends the process.
+    fn explain(&mut self, source: Source, record: &Record, words: &[u32]) {
+        let size = self.rng.pick(&SIZES);
+        let lent = MARGIN..MARGIN + size;
+        let mut library = pattern(&mut self.rng, size + 2 * MARGIN);
+        let mut model = library.clone();
+        let mut after = *record;
+        let reply = explain_by_library(&mut after, words, &mut library[lent.clone()]);
+        let expected = expected_explanation(record, words, &mut model[lent]);
+        if reply != expected || library != model || after != *record {
+            self.print_before(source, record);
+            println!("call    an explanation in {size} bytes, with words {words:?}");
+            for (name, reply, buffer) in [("library", reply, library), ("model", expected, model)] {
+                println!("{name}: {reply:?}");
+                println!("{name} writes \"{}\"", buffer.escape_ascii());
+            }
+            println!("library leaves {after:?}");
+            exit(1);
+        }
+        self.explain_counts[source as usize] += 1;
+        let was_sound = reply.number != number::UNSOUND;
+        self.sound += u64::from(was_sound);
+        if let Some(session) = view(record) {
+            self.held.add(&session, was_sound);
+        }
+        self.count_explanation(record, words, reply.number, size);
+    }
+
+    fn count_explanation(&mut self, record: &Record, words: &[u32], number: u64, size: usize) {
+        if number != number::ACCEPTED {
+            self.explanations.add_refused(number, size < BUFFER_LEAST);
+            return;
+        }
+        let session = view(record).expect("an accepted call has a session");
+        let explained = explain_sound(&session, words).expect("it is accepted");
+        let told = Told::new(&session, words, &explained.explanation);
+        self.explanations.add_accepted(&told);
+    }
+
     fn print_before(&self, source: Source, before: &Record) {
         let calls = self.calls();
         println!("DISAGREEMENT on a record of {source:?}, after {calls} calls");
@@ -470,7 +566,7 @@ impl Test {
         let sources = SOURCES.map(|(source, name)| format!("{name} {}", self.calls_of(source)));
         let answers = (0..NUMBERS).map(|number| format!("{number}:{}", self.count_of(number)));
         format!(
-            "{} calls agree ({}; {} on sound records); answers {}; {}; {}; {}; {}; {}; {}; {}; {}; the rows of {} of \
+            "{} calls agree ({}; {} on sound records); answers {}; {}; {}; {}; {}; {}; {}; {}; {}; {}; the rows of {} of \
             the batches also arrived one by one",
             self.calls(),
             sources.join(", "),
@@ -483,6 +579,7 @@ impl Test {
             self.mixed,
             self.held,
             self.starts,
+            self.explanations,
             self.batches,
             self.one_by_one
         )
@@ -516,6 +613,19 @@ fn words_for_choice(rng: &mut Rng, record: &Record) -> Vec<u32> {
             words.collect()
         }
     }
+}
+
+/// How many jobs wait in a sound record.
+fn waiting_jobs(record: &Record) -> usize {
+    let jobs = &record.jobs[..record.count as usize];
+    jobs.iter().filter(|job| job.left > 0).count()
+}
+
+/// Bytes of which each differs from its neighbours, so that one that is moved shows too.
+fn pattern(rng: &mut Rng, size: usize) -> Vec<u8> {
+    let first = rng.draw() as u8;
+    let bytes = (0..size).map(|place| first.wrapping_add((place * 37) as u8));
+    bytes.collect()
 }
 
 /// The words of a table, admitted or refused, now and then of a wrong length.

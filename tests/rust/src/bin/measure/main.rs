@@ -5,6 +5,7 @@ mod arrivals;
 mod cases;
 mod count;
 mod differing;
+mod explanations;
 mod host;
 mod meters;
 mod opinions;
@@ -37,6 +38,7 @@ fn main() {
         let rows = options.number("--rows", 1);
         match call {
             arrivals::CALL => arrivals::make_counted_calls(shape, rows),
+            explanations::CALL => explanations::make_counted_calls(shape, rows),
             meters::CALL => meters::make_counted_calls(options.number("--question", 0)),
             opinions::CALL => opinions::make_counted_calls(options.number("--question", 0)),
             overloads::CALL => overloads::make_counted_calls(options.number("--question", 0)),
@@ -61,6 +63,7 @@ fn main() {
     print_counts(title, &choices, &passing, &CHOICES);
     arrivals::print_counts(scratch);
     print_growth(&counts);
+    explanations::print(scratch);
     meters::print(scratch);
     opinions::print(scratch);
     overloads::print(scratch);
@@ -101,6 +104,7 @@ fn check_everything(passing: &[Named]) {
     check_mixed();
     for (shape, _, count) in tables(&ROWS) {
         arrivals::check(shape, count);
+        explanations::check(shape, count);
     }
     meters::check();
     opinions::check();

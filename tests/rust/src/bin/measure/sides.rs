@@ -5,8 +5,9 @@
 use std::hint::black_box;
 
 use shuffle_model::calls::{self, arrive_all, perform, perform_on_sound, Call};
+use shuffle_model::explanation_text::explain_into;
 use shuffle_model::meter::{meter, Question};
-use shuffle_model::record::{answered, ask_library, reply_of, Request};
+use shuffle_model::record::{answered, ask_library, explain_by_library, reply_of, Request};
 use shuffle_model::session::{start, Session};
 use shuffle_model::shuffle::{self, Arrival, Reply, Session as Record};
 use shuffle_model::table::{
@@ -14,6 +15,7 @@ use shuffle_model::table::{
 };
 
 use crate::arrivals::Lent;
+use crate::explanations::Asked;
 
 // SAFETY: these are the library's signatures (tests/cores). The record must be
 // sound; pointer and length must be of one slice.
@@ -139,6 +141,20 @@ pub fn library_arrive_each(lent: &mut Lent<Record, Arrival>) {
 #[inline(never)]
 pub fn model_arrive_all(lent: &mut Lent<Session, calls::Arrival>) {
     arrive_all(&mut lent.session, &mut lent.list);
+}
+
+/// An explanation of the library, with its text.
+#[no_mangle]
+#[inline(never)]
+pub fn library_explain(asked: &mut Asked<Record>, words: &[u32]) -> Reply {
+    explain_by_library(&mut asked.session, words, &mut asked.buffer)
+}
+
+/// An explanation of the model, with its text.
+#[no_mangle]
+#[inline(never)]
+pub fn model_explain(asked: &mut Asked<Session>, words: &[u32]) -> Reply {
+    reply_of(explain_into(&asked.session, words, &mut asked.buffer))
 }
 
 /// One call of the library's meter.

@@ -1,0 +1,5 @@
+pub mod Narration
+pub mod Telling
+pub mod Moments
+pub mod Statement
+pub mod Theorems

@@ -1,0 +1,9 @@
+pub mod Reading
+pub mod Statement
+pub mod Back
+pub mod Same
+pub mod Fitted
+pub mod Theorems
+pub mod Took
+pub mod Code
+pub mod Answer

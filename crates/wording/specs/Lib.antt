@@ -1,0 +1,9 @@
+pub mod Phrases
+pub mod Explanation
+pub mod Text
+pub mod Statement
+pub mod Layout
+pub mod Pieces
+pub mod Theorems
+pub mod Bytes
+pub mod Write
