@@ -83,6 +83,11 @@ pub record Did (k : ℕ) (x : Step) (s : Session) (p r : Play) (w v before after
 pub record Queued (clock w : ℕ) (p r : Play) (words words′ before after : List ℕ) : Type 0 where
   pub did : (s : Session) → s .clock ≡ clock → Did 1 (stepOf s (queueOf words p) (p .line) (Word w)) s p r words words′ before after
 
+-- a line that is no call, with any session that shows this clock
+pub record Aside (clock : ℕ) (x : Line) (p r : Play) (words words′ before after : List ℕ) : Type 0 where
+  pub did : ((c : Call) → x ≡ CallLine c → ⊥) → (s : Session) → s .clock ≡ clock
+      → Did (wordsIn x) (stepOf s (queueOf words p) (p .line) x) s p r words words′ before after
+
 -- ---- printing
 
 pub told-is : (clock letter : ℕ) (a : Answer) (n : Numbers) (d e : List ℕ) (at q : ℕ) → Shows (shown a) n
@@ -240,28 +245,41 @@ module _ (s : Session) (p : Play) (x : Line) (words before : List ℕ) (ready : 
   abbrev StepDid : Session → Play → List ℕ → List ℕ → Type 0
   StepDid s′ r words′ after = Did (wordsIn x) (stepOf s (queueOf words p) (p .line) x) s′ p r words words′ before after
 
-  pub step-place : (w : ℕ) → x ≡ Word w → p .to + wordsIn x ≤ length words → p .to < length words
-  step-place w e h = omega (arith, ap wordsIn e)
+  pub step-aside : (r : Play) (words′ after : List ℕ) → ((c : Call) → x ≡ CallLine c → ⊥) → Aside (s .clock) x p r words words′ before after → StepDid s r words′ after
+  step-aside r words′ after e q = q .did e s refl
 
-  pub step-word : (w : ℕ) (r : Play) (words′ after : List ℕ) → x ≡ Word w → Queued (s .clock) w p r words words′ before after → StepDid s r words′ after
-  step-word w r words′ after e q = rw e (q .did s refl)
+  pub step-call : (c : Call) (l : List ℕ) (o : Outcome) (letter : ℕ) (r : Play) (after : List ℕ) → x ≡ CallLine c → o ≡ callOf s l c → l ≡ queueOf words p
+      → letter ≡ letterOf c → Told (answerText (o .session .clock) letter (o .answer)) (o .used) p r before after → StepDid (o .session) r words after
+  step-call c l o letter r after e f g k u = rw e (did-call s c p l words before ready g o f letter r after k u)
 
-  module _ (c : Call) (e : x ≡ CallLine c) (l : List ℕ) (o : Outcome) (f : o ≡ callOf s l c) (g : l ≡ queueOf words p) where
-    pub step-call : (letter : ℕ) (r : Play) (after : List ℕ) → letter ≡ letterOf c
-        → Told (answerText (o .session .clock) letter (o .answer)) (o .used) p r before after → StepDid (o .session) r words after
-    step-call letter r after k u = rw e (did-call s c p l words before ready g o f letter r after k u)
+pub ruleset step-laws = (step-aside, step-call)
 
-  module _ (r : Play) (after : List ℕ) (u : Unread (s .clock) p r before after) where
-    pub step-row : (c t d : ℕ) → x ≡ Row c t d → StepDid s r words after
+-- ---- any line that is no call
+
+module _ (clock : ℕ) (p : Play) (x : Line) (words before : List ℕ) (ready : Ready p words before) where
+  abbrev AsideDid : Play → List ℕ → List ℕ → Type 0
+  AsideDid r words′ after = Aside clock x p r words words′ before after
+
+  pub aside-place : (w : ℕ) → x ≡ Word w → p .to + wordsIn x ≤ length words → p .to < length words
+  aside-place w e h = omega (arith, ap wordsIn e)
+
+  pub aside-word : (w : ℕ) (r : Play) (words′ after : List ℕ) → x ≡ Word w → Queued clock w p r words words′ before after → AsideDid r words′ after
+  aside-word w r words′ after e q = rw e (record { did = λ z s f. q .did s f })
+
+  pub aside-call : (c : Call) → x ≡ CallLine c → AsideDid p words before
+  aside-call c e = record { did = λ z. absurd (z c e) }
+
+  module _ (r : Play) (after : List ℕ) (u : Unread clock p r before after) where
+    pub aside-row : (c t d : ℕ) → x ≡ Row c t d → AsideDid r words after
     unfolding stepOf
-    step-row c t d e = rw e (did-unread p r words before after (ready .order) s u 0)
+    aside-row c t d e = rw e (record { did = λ z s f. did-unread p r words before after (ready .order) s (rw f u) 0 })
 
-    pub step-empty : x ≡ Empty → StepDid s r words after
+    pub aside-empty : x ≡ Empty → AsideDid r words after
     unfolding stepOf
-    step-empty e = rw e (did-unread p r words before after (ready .order) s u 0)
+    aside-empty e = rw e (record { did = λ z s f. did-unread p r words before after (ready .order) s (rw f u) 0 })
 
-    pub step-unreadable : x ≡ Unreadable → StepDid s r words after
+    pub aside-unreadable : x ≡ Unreadable → AsideDid r words after
     unfolding stepOf
-    step-unreadable e = rw e (did-unread p r words before after (ready .order) s u 0)
+    aside-unreadable e = rw e (record { did = λ z s f. did-unread p r words before after (ready .order) s (rw f u) 0 })
 
-pub ruleset step-laws = (step-place, step-word, step-call, step-row, step-empty, step-unreadable)
+pub ruleset aside-laws = (aside-place, aside-word, aside-call, aside-row, aside-empty, aside-unreadable)

@@ -9,6 +9,7 @@ use lib.Dec.{ltb}
 use lib.ListN.{length, drop, length-append}
 use Rattle.bounded.specs.Tests.{both}
 use Rattle.decimal.specs.Buffer.{Wrote, overlay, overlay-none, overlay-more, wrote-length}
+use Rattle.lines.specs.declared.read.Call.{Call}
 use Rattle.lines.specs.declared.read.Line.{Line}
 use Rattle.lines.specs.declared.read.Line.the-variants.{Row, Word, Call as CallLine, Empty, Unreadable}
 use Rattle.lines.specs.declared.read.Next.{Next}
@@ -17,7 +18,7 @@ use Rattle.session.specs.declared.Session.{Session}
 use Rattle.session.specs.Sound.{sound}
 use Rattle.transcript.specs.declared.step.Play.{Play}
 use Rattle.transcript.specs.Step.{queueLimit, stepOf, callsText}
-use Rattle.transcript.specs.Play.{queueOf, wordsIn, Ready, Did}
+use Rattle.transcript.specs.Play.{queueOf, wordsIn, Ready, Did, Aside}
 use Rattle.transcript.specs.Kept.{Kept, kept-call}
 use Rattle.transcript.specs.Short.{open-short}
 
@@ -178,7 +179,7 @@ module _ (text : List ℕ) (start : ℕ) (s₀ : Session) (p₀ : Play) (first :
       unfolding callsText
       owed-more e = rw (t .lines, sym (d .over) ∙ e, d .line e, add-one, d .session, d .queue)
 
-      pub play-over : r .over ≡ true → Whole (r .end) out′
+      play-over : r .over ≡ true → Whole (r .end) out′
       play-over e =
           let all = ap length (owed-over e) in
           record {
@@ -207,4 +208,9 @@ module _ (text : List ℕ) (start : ℕ) (s₀ : Session) (p₀ : Play) (first :
                 omega (arith, d .wrote .place, now .total, k);
           }
 
-pub ruleset play-laws = (play-start, play-less, play-sound, play-ready, play-place, play-over, play-next, play-done)
+    -- a line that is no call may end the output
+    pub play-ends : (r : Play) (words′ out′ : List ℕ) → ((c : Call) → n .line ≡ CallLine c → ⊥) → Aside (s .clock) (n .line) p r words words′ out out′
+        → r .over ≡ true → Whole (r .end) out′
+    play-ends r words′ out′ e q o = play-over s r words′ out′ (q .did e s refl) o
+
+pub ruleset play-laws = (play-start, play-less, play-sound, play-ready, play-place, play-ends, play-next, play-done)

@@ -4,7 +4,11 @@ ghost use mathlib.Core.List.{[]};
 ghost use Rattle.decimal.specs.Buffer.{Wrote};
 ghost use Rattle.transcript.specs.Plays.{roomOf, Begun, owed};
 use crate::step::Play;
-use crate::step::step;
+use crate::step::aside;
+use crate::step::call;
+use crate::step::letter;
+use crate::step::tell;
+use lines::read::Line;
 use lines::read::next_line;
 use session::Session;
 
@@ -21,12 +25,20 @@ pub fn play(text: &[u8], start: usize, session: Session, first: Play, out: &mut 
         let n = next_line(text, at);
         let line = n.line;
         at = n.at;
-        let t = step(s, p, line, &mut words, out);
-        s = t.session;
-        p = t.play;
-        if p.over {
-            return p.end;
-        }
+        // The body of `step`, without its copies of the session.
+        let Line::Call(c) = line else {
+            p = aside(p, s.clock, line, &mut words, out);
+            if p.over {
+                return p.end;
+            }
+            continue;
+        };
+        let from = p.from;
+        let to = p.to;
+        let o = call(s, c, &words[from..to]);
+        let answer = o.answer;
+        s = o.session;
+        p = tell(p, letter(c), s.clock, answer, o.used, out);
     }
     p.end
 }

@@ -5,7 +5,7 @@ ghost use Prim.Native.Nat.{_+_, _≤_, _<_};
 ghost use lib.ListN.{length};
 ghost use Rattle.session.specs.Sound.{sound};
 ghost use Rattle.transcript.specs.Step.{letterOf, callOf, answerText, stepOf};
-ghost use Rattle.transcript.specs.Play.{Room, Ready, Told, Unread, Queued, Did, queueOf, wordsIn};
+ghost use Rattle.transcript.specs.Play.{Room, Ready, Told, Unread, Queued, Did, Aside, queueOf, wordsIn};
 use lines::read::Call;
 use lines::read::Line;
 use lines::write::put_line;
@@ -33,7 +33,7 @@ pub struct Stepped {
     pub play: Play,
 }
 
-fn letter(c: Call) -> u8
+pub fn letter(c: Call) -> u8
     ensures { λ r. ⌜ r ≡ letterOf c ⌝ }
 {
     match c {
@@ -45,7 +45,7 @@ fn letter(c: Call) -> u8
 }
 
 // `words` are those that wait. The session is sound, so no check is made.
-fn call(s: Session, c: Call, words: &[u32]) -> Outcome
+pub fn call(s: Session, c: Call, words: &[u32]) -> Outcome
     requires { ⌜ sound s ≡ true ⌝ }
     ensures { λ r. ⌜ r ≡ callOf s (now (words .entry)) c ⌝ }
 {
@@ -58,7 +58,7 @@ fn call(s: Session, c: Call, words: &[u32]) -> Outcome
 }
 
 // Prints the answer of a call that used so many words, with the clock after it.
-fn tell(p: Play, letter: u8, clock: u64, answer: Answer, used: u64, out: &mut [u8]) -> Play
+pub fn tell(p: Play, letter: u8, clock: u64, answer: Answer, used: u64, out: &mut [u8]) -> Play
     requires { ⌜ Room p (now out) × (p .from + used ≤ p .to) ⌝ }
     ensures { λ r. ⌜ Told (answerText clock letter answer) used p r (now (out .entry)) (now (out .exit)) ⌝ }
 {
@@ -103,26 +103,34 @@ fn queue(p: Play, clock: u64, w: u32, words: &mut [u32], out: &mut [u8]) -> Play
     refuse(p, clock, out)
 }
 
+// A line that is no call: a word, or one that can't be read here. It has the clock and not the session, which would be copied.
+pub fn aside(p: Play, clock: u64, line: Line, words: &mut [u32], out: &mut [u8]) -> Play
+    requires { ⌜ Ready p (now words) (now out) × (p .to + wordsIn line ≤ length (now words)) ⌝ }
+    ensures { λ r. ⌜ Aside clock line p r (now (words .entry)) (now (words .exit)) (now (out .entry)) (now (out .exit)) ⌝ }
+{
+    match line {
+        Line::Word(w) => queue(p, clock, w, words, out),
+        Line::Call(_) => p,
+        Line::Row { .. } => refuse(p, clock, out),
+        Line::Empty => refuse(p, clock, out),
+        Line::Unreadable => refuse(p, clock, out),
+    }
+}
+
 // One line of any kind. The session is sound, and there is room for a line and for a word.
 pub fn step(s: Session, p: Play, line: Line, words: &mut [u32], out: &mut [u8]) -> Stepped
     requires { ⌜ (sound s ≡ true) × Ready p (now words) (now out) × (p .to + wordsIn line ≤ length (now words)) ⌝ }
     ensures { λ r. ⌜ Did (wordsIn line) (stepOf s (queueOf (now (words .entry)) p) (p .line) line) (r .session) p (r .play) (now (words .entry)) (now (words .exit)) (now (out .entry)) (now (out .exit)) ⌝ }
 {
-    let clock = s.clock;
-    let play = match line {
-        Line::Word(w) => queue(p, clock, w, words, out),
-        Line::Call(c) => {
-            let from = p.from;
-            let to = p.to;
-            let o = call(s, c, &words[from..to]);
-            let answer = o.answer;
-            let session = o.session;
-            let play = tell(p, letter(c), session.clock, answer, o.used, out);
-            return Stepped { session, play };
-        }
-        Line::Row { .. } => refuse(p, clock, out),
-        Line::Empty => refuse(p, clock, out),
-        Line::Unreadable => refuse(p, clock, out),
+    let Line::Call(c) = line else {
+        let play = aside(p, s.clock, line, words, out);
+        return Stepped { session: s, play };
     };
-    Stepped { session: s, play }
+    let from = p.from;
+    let to = p.to;
+    let o = call(s, c, &words[from..to]);
+    let answer = o.answer;
+    let session = o.session;
+    let play = tell(p, letter(c), session.clock, answer, o.used, out);
+    Stepped { session, play }
 }

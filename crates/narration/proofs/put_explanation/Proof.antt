@@ -3,21 +3,16 @@ use mathlib.Core.Path.{_≡_}
 use mathlib.Core.List.{[], _∷_}
 use denote.Enum.Declared.{tagOf}
 use types.Run.{OneOf, miss}
-use Rattle.lines.proofs.read.Line.{the-type as line-type}
 use Rattle.lines.proofs.read.Call.{the-type as call-type}
-use Rattle.lines.specs.declared.read.Line.{Line}
-use Rattle.lines.specs.declared.read.Line.the-variants.{Call as CallLine}
 use Rattle.lines.specs.declared.read.Call.{Call}
 use Rattle.lines.specs.declared.read.Call.the-variants.{Choose}
+use Rattle.transcript.proofs.NotCall.{not-call}
 use Rattle.narration.specs.Telling.{put-cases}
 use borrow.Author.Needs.{needs}
 use Rattle.narration.proofs.put_explanation.Statement.{statement}
 use Rattle.narration.proofs.put_explanation.Tie as tie
 
--- the other variants are no call, and no choose
-not-call : (x : Line) → OneOf (0 ∷ 1 ∷ 3 ∷ 4 ∷ []) (tagOf line-type x) → (c : Call) → x ≡ CallLine c → ⊥
-not-call x h c e = miss (0 ∷ 1 ∷ 3 ∷ 4 ∷ []) 2 tt (rw e at h)
-
+-- the other variants are no choose
 not-choose : (c : Call) → OneOf (0 ∷ 2 ∷ 3 ∷ []) (tagOf call-type c) → c ≡ Choose → ⊥
 not-choose c h e = miss (0 ∷ 2 ∷ 3 ∷ []) 1 tt (rw e at h)
 

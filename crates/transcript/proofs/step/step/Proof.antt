@@ -1,18 +1,25 @@
 -- `transcript::step::step` meets its contract. Assumes nothing.
 use denote.Ref.{now}
-use Rattle.transcript.specs.Play.{part-is, step-tells, step-laws}
 use borrow.Author.Needs.{needs}
+use Rattle.transcript.specs.Play.{part-is, step-tells, step-laws}
+use Rattle.transcript.proofs.NotCall.{not-call}
 use Rattle.transcript.proofs.step.step.Statement.{statement}
 use Rattle.transcript.proofs.step.step.Tie as tie
 
 enum-known-line : tie.Need-enum-known-line
 enum-known-line c = search needs
 
-queue-requires : tie.Need-queue-requires
-queue-requires c κs = search (needs, step-laws)
+aside-requires : tie.Need-aside-requires
+aside-requires c κs = search needs
 
-enum-known-line-2 : tie.Need-enum-known-line-2
-enum-known-line-2 c = search needs
+same-length : tie.Need-same-length
+same-length c = search needs
+
+same-length-2 : tie.Need-same-length-2
+same-length-2 c = search needs
+
+returns : tie.Need-returns
+returns c = search (needs, step-laws, not-call)
 
 mul-call : tie.Need-mul-call
 mul-call c = search needs
@@ -39,33 +46,6 @@ tell-requires c κs =
     step-tells _ _ (start .args .p) _ _ _ (start .pre .1) (part-is (start .args .p .from) (start .args .p .to) (now (start .args .words)))
     (called .call .result) (called .call .ensures)
 
-same-length : tie.Need-same-length
-same-length c = search needs
-
-same-length-2 : tie.Need-same-length-2
-same-length-2 c = search needs
-
-returns : tie.Need-returns
-returns c = search (needs, step-laws, part-is)
-
-enum-told : tie.Need-enum-told
-enum-told c = search needs
-
-refuse-requires : tie.Need-refuse-requires
-refuse-requires c κs = search needs
-
-enum-told-2 : tie.Need-enum-told-2
-enum-told-2 c = search needs
-
-refuse-requires-2 : tie.Need-refuse-requires-2
-refuse-requires-2 c κs = search needs
-
-enum-told-3 : tie.Need-enum-told-3
-enum-told-3 c = search needs
-
-refuse-requires-3 : tie.Need-refuse-requires-3
-refuse-requires-3 c κs = search needs
-
 same-length-3 : tie.Need-same-length-3
 same-length-3 c = search needs
 
@@ -73,33 +53,17 @@ same-length-4 : tie.Need-same-length-4
 same-length-4 c = search needs
 
 returns-2 : tie.Need-returns-2
-returns-2 c = search (needs, step-laws)
-
-same-length-5 : tie.Need-same-length-5
-same-length-5 c = search needs
-
-returns-3 : tie.Need-returns-3
-returns-3 c = search (needs, step-laws)
-
-same-length-6 : tie.Need-same-length-6
-same-length-6 c = search needs
-
-returns-4 : tie.Need-returns-4
-returns-4 c = search (needs, step-laws)
-
-same-length-7 : tie.Need-same-length-7
-same-length-7 c = search needs
-
-returns-5 : tie.Need-returns-5
-returns-5 c = search (needs, step-laws)
+returns-2 c = search (needs, step-laws, part-is)
 
 pub step-spec : {M : Type 1} → statement M
 step-spec =
     tie.close
     (tie.spec
     enum-known-line
-    queue-requires
-    enum-known-line-2
+    aside-requires
+    same-length
+    same-length-2
+    returns
     mul-call
     sub-call
     part-call-start
@@ -107,21 +71,6 @@ step-spec =
     call-requires
     letter-requires
     tell-requires
-    same-length
-    same-length-2
-    returns
-    enum-told
-    refuse-requires
-    enum-told-2
-    refuse-requires-2
-    enum-told-3
-    refuse-requires-3
     same-length-3
     same-length-4
-    returns-2
-    same-length-5
-    returns-3
-    same-length-6
-    returns-4
-    same-length-7
-    returns-5)
+    returns-2)
