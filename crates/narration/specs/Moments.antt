@@ -14,7 +14,7 @@ use Rattle.transcript.specs.declared.opening.State.{State}
 use Rattle.transcript.specs.Step.{stepOf}
 use Rattle.transcript.specs.Transcript.{rowLimit, rowsIn, afterRows}
 use Rattle.narration.specs.Narration.{explanationAfter}
-use Rattle.narration.specs.Telling.{Told}
+use Rattle.narration.specs.Telling.{Continued}
 
 -- a line that is answered, its number, and the session and the words waiting before it
 pub record Moment : Type 0 where
@@ -57,5 +57,5 @@ joined f (m ∷ l) = f m ++ joined f l
 -- what they write
 pub data Calls (text : List ℕ) : State → List ℕ → List ℕ → Type 0 where
   done : {t : State} {words : List ℕ} → t .play .over ≡ true → Calls text t words []
-  again : {t r : State} {words words′ out rest : List ℕ} → t .play .over ≡ false → Told text t r words words′ out → Calls text r words′ rest
+  again : {t r : State} {words words′ out rest : List ℕ} → t .play .over ≡ false → Continued text t r words words′ out → Calls text r words′ rest
       → Calls text t words (take (r .play .end) out ++ rest)

@@ -12,7 +12,7 @@ use Rattle.explain.specs.Explain.{explanationOf}
 use Rattle.transcript.specs.declared.opening.State.{State}
 use Rattle.transcript.specs.Transcript.{printedOf}
 use Rattle.narration.specs.Narration.{narratedOf, narrationOf}
-use Rattle.narration.specs.Telling.{Begun}
+use Rattle.narration.specs.Telling.{Began}
 use Rattle.narration.specs.Moments.{Moment, momentsOf, answerAt, explanationAt, tableText, joined, Calls}
 
 -- WITHOUT THE EXPLANATIONS IT IS THE OUTPUT OF `shuffle`: both print the table, and then of the same lines the one prints the
@@ -39,5 +39,5 @@ NothingElse = (m : Moment) → (Accepted m → ⊥) → explanationAt m ≡ []
 -- THE PARTS ARE THE WHOLE: what `begin` writes, and what `more` writes, called until all is told, is the output for the input
 abbrev pub PartsWhole : Type 0
 PartsWhole =
-    (text : List ℕ) (t : State) (out words rest : List ℕ) → Begun text t out → Calls text t words rest
+    (text : List ℕ) (t : State) (out words rest : List ℕ) → Began text t out → Calls text t words rest
     → take (t .play .end) out ++ rest ≡ narrationOf text

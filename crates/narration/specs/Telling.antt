@@ -51,13 +51,13 @@ pub record Going (text : List ℕ) (t : State) (words : List ℕ) : Type 0 where
   pub left : t .play .over ≡ false → t .at < length text
 
 -- the contract of `begin`: the output is what it wrote, followed by what is owed; any words will do
-pub record Begun (text : List ℕ) (r : State) (out : List ℕ) : Type 0 where
+pub record Began (text : List ℕ) (r : State) (out : List ℕ) : Type 0 where
   pub output : (words : List ℕ) → narrationOf text ≡ take (r .play .end) out ++ owed text r words
   pub fits : r .play .end ≤ length out
   pub going : (words : List ℕ) → length words ≡ 16384 → Going text r words
 
 -- the contract of `more`: what was owed is what it wrote, followed by what is owed now; unless all was told, it got further
-pub record Told (text : List ℕ) (t r : State) (words words′ out : List ℕ) : Type 0 where
+pub record Continued (text : List ℕ) (t r : State) (words words′ out : List ℕ) : Type 0 where
   pub output : owed text t words ≡ take (r .play .end) out ++ owed text r words′
   pub fits : r .play .end ≤ length out
   pub going : Going text r words′
@@ -274,7 +274,7 @@ pub ruleset line-laws = (line-sound, line-ready, line-left, line-place, line-roo
 -- ---- `begin`
 
 pub begun : (text : List ℕ) (t r : State) (before after : List ℕ) → length text ≤ inputLimit → 1478 ≤ length before → Opened text t before after
-    → r ≡ closedAt t (length text) → Begun text r after
+    → r ≡ closedAt t (length text) → Began text r after
 unfolding narrationOf narratedOf owed
 begun text t r before after limit room o e =
     let printed : List ℕ = opinionText (opinionIn text) in
@@ -341,26 +341,26 @@ module _ (text : List ℕ) (t₀ : State) (words₀ out₀ : List ℕ) (t : Stat
   telling-less r words′ out′ f l = omega (arith, l .further, now .going .left f)
 
 module _ (text : List ℕ) (t₀ : State) (words₀ out₀ : List ℕ) (t : State) (words out : List ℕ) (now : Telling text (rewound t₀) words₀ out₀ t words out) where
-  told-of : (t₀ .play .over ≡ false → t₀ .at < t .at) → Told text t₀ t words₀ words out
+  told-of : (t₀ .play .over ≡ false → t₀ .at < t .at) → Continued text t₀ t words₀ words out
   unfolding owed
   told-of h = record { output = now .output; fits = now .fits; going = now .going; further = h }
 
   -- the buffer is full, so that something was written
-  pub telling-full : length out - t .play .end < 2037 → Told text t₀ t words₀ words out
+  pub telling-full : length out - t .play .end < 2037 → Continued text t₀ t words₀ words out
   telling-full h = told-of (λ z. ⊎-elim (λ y. absurd (omega (arith, y .0, now .room))) (λ y. y) (now .further))
 
-  pub telling-done : t .play .over ≡ true → Told text t₀ t words₀ words out
+  pub telling-done : t .play .over ≡ true → Continued text t₀ t words₀ words out
   telling-done h = told-of (λ z. ⊎-elim (λ y. absurd (true≢false (sym h ∙ y .2 ∙ z))) (λ y. y) (now .further))
 
 pub ruleset telling-laws = (telling-start, telling-next, telling-full, telling-done, telling-less)
 
 -- ---- for their caller
 
-pub begun-going : (text : List ℕ) (r : State) (out words : List ℕ) → Begun text r out → length words ≡ 16384 → Going text r words
+pub begun-going : (text : List ℕ) (r : State) (out words : List ℕ) → Began text r out → length words ≡ 16384 → Going text r words
 begun-going text r out words b h = b .going words h
 
 -- what is left of the text falls with each call
-pub told-less : (text : List ℕ) (t r : State) (words words′ out : List ℕ) → t .play .over ≡ false → Going text t words → Told text t r words words′ out
+pub told-less : (text : List ℕ) (t r : State) (words words′ out : List ℕ) → t .play .over ≡ false → Going text t words → Continued text t r words words′ out
     → length text - r .at < length text - t .at
 told-less text t r words words′ out f g d = omega (arith, g .left f, d .further f)
 

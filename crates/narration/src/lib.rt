@@ -9,7 +9,7 @@ ghost use Rattle.decimal.specs.Buffer.{Wrote};
 ghost use Rattle.session.specs.Sound.{sound};
 ghost use Rattle.transcript.specs.Transcript.{inputLimit};
 ghost use Rattle.narration.specs.Narration.{explanationAfter};
-ghost use Rattle.narration.specs.Telling.{closedAt, Going, LineTold, Told, Begun};
+ghost use Rattle.narration.specs.Telling.{closedAt, Going, LineTold, Continued, Began};
 use explain::put_sound;
 use lines::read::Call;
 use lines::read::Line;
@@ -81,7 +81,7 @@ fn tell_line(text: &[u8], t: State, words: &mut [u32], out: &mut [u8]) -> State
 // Writes what is printed of the table to the start of `out`.
 pub fn begin(text: &[u8], out: &mut [u8]) -> State
     requires { ⌜ (length (now text) ≤ inputLimit) × (1478 ≤ length (now out)) ⌝ }
-    ensures { λ r. ⌜ Begun (now (text .entry)) r (now (out .exit)) ⌝ }
+    ensures { λ r. ⌜ Began (now (text .entry)) r (now (out .exit)) ⌝ }
 {
     closed(transcript::opening::begin(text, out), text.len())
 }
@@ -89,7 +89,7 @@ pub fn begin(text: &[u8], out: &mut [u8]) -> State
 // Writes as many lines, with their explanations, as surely fit to the start of `out`; at least one, unless all is told.
 pub fn more(text: &[u8], state: State, words: &mut [u32], out: &mut [u8]) -> State
     requires { ⌜ Going (now text) state (now words) × (2037 ≤ length (now out)) ⌝ }
-    ensures { λ r. ⌜ Told (now (text .entry)) state r (now (words .entry)) (now (words .exit)) (now (out .exit)) ⌝ }
+    ensures { λ r. ⌜ Continued (now (text .entry)) state r (now (words .entry)) (now (words .exit)) (now (out .exit)) ⌝ }
 {
     let session = state.session;
     let mut play = state.play;
