@@ -95,7 +95,7 @@ const SORTS: [Sort; 27] = [
     sort("loose, by remaining ticks", [1, 200], |told| {
         told.is(Kind::Loose, Cause::Remaining)
     }),
-    sort("loose, by a word", [1, 400], |told| {
+    sort("loose, by a word", [2, 400], |told| {
         told.is(Kind::Loose, Cause::Word)
     }),
     sort("loose, for lack of a word", [2, 1_500], |told| {
