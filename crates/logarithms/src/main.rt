@@ -1,4 +1,4 @@
-// Prints the meter's table g, eight times the base-2 logarithm of n, rounded down: a line for each n from 1 to 255
+// Prints the meter's g, eight times the base-2 logarithm of n, rounded down: a line for each n from 1 to 255
 // (docs/SPECIFICATION.md §10.2).
 ghost use Prim.Native.Nat.{_≤_};
 use libc::STDOUT_FILENO;

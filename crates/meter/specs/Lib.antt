@@ -1,5 +1,6 @@
 pub mod Log
-pub mod Table
+pub mod Formula
+pub mod Power
 pub mod Meter
 pub mod Entropy
 pub mod Rule

@@ -21,16 +21,6 @@ pub record Eighths (n r : ℕ) : Type 0 where
 unfoldable pub eighthsOf : ℕ → ℕ
 eighthsOf n = leastFrom (λ r. ltb (n ^ 8) (2 ^ (r + 1))) 0 64
 
--- the rule as a test
-unfoldable pub ruled : ℕ → ℕ → Bool
-ruled n r = leb (2 ^ r) (n ^ 8) && ltb (n ^ 8) (2 ^ (r + 1))
-
-pub ruled-then : (n r : ℕ) → ruled n r ≡ true → Eighths n r
-unfolding ruled
-ruled-then n r e =
-    let p = and-true (leb (2 ^ r) (n ^ 8)) (ltb (n ^ 8) (2 ^ (r + 1))) e in
-    record { low = leb-true (2 ^ r) (n ^ 8) (p .0); high = ltb-true (n ^ 8) (2 ^ (r + 1)) (p .1) }
-
 -- ---- the rule fixes the number
 
 pub eighths-one : (n a b : ℕ) → Eighths n a → Eighths n b → a ≡ b

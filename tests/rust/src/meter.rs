@@ -1,6 +1,6 @@
 //! How mixed a schedule is: the meter, which compares every interval tick by tick.
 
-use std::iter::zip;
+use std::iter::{successors, zip};
 
 use crate::calls::Answer;
 
@@ -117,8 +117,13 @@ pub fn add_up(stretches: usize, counts: &[usize]) -> u64 {
     counts.iter().map(|count| g(stretches) - g(*count)).sum()
 }
 
-/// g(n): eight times the base-2 logarithm of n, rounded down. That is the
-/// logarithm of n to the eighth, rounded down. n is not 0 and at most 255.
+/// g(n): eight times the base-2 logarithm of n, rounded down. The library finds it by
+/// counting leading zeros, as `ilog2` does. Here it is sought by its rule: n to the
+/// eighth is at least 2 to the power g(n) and below twice that power. n is not 0 and
+/// at most 255.
 pub fn logarithm(n: usize) -> u64 {
-    u64::from((n as u128).pow(8).ilog2())
+    let eighth = (n as u128).pow(8);
+    let mut powers = successors(Some(1u128), |power| power.checked_mul(2));
+    let g = powers.position(|power| power <= eighth && eighth < 2 * power);
+    g.expect("n is not 0") as u64
 }

@@ -152,7 +152,7 @@ fn too_few_questions_of_a_sort_are_named() {
     let undecided: Vec<&String> = gaps.iter().filter(|gap| gap.starts_with("g(")).collect();
     assert_eq!(undecided.len(), 252);
     assert_eq!(undecided[0], "g(4) decided no answer");
-    // Whatever the table, equal stretches give 0.
+    // Whatever the logarithms, equal stretches give 0.
     let equal = question(&[&[7], &[7]], 1, 0);
     let text = tally(&[equal]).to_string();
     assert!(

@@ -1,4 +1,4 @@
-//! Prints the meter's table of logarithms: g(1), g(2) and so on, one to a line.
+//! Prints the meter's logarithms: g(1), g(2) and so on, one to a line.
 
 use shuffle_model::meter::{logarithm, STRETCH_LIMIT};
 

@@ -1,22 +1,17 @@
 -- `meter::log::eighths` meets its contract. Assumes nothing.
-use mathlib.Core.Path.{refl}
 use borrow.Author.Needs.{needs}
-use Rattle.meter.specs.Table.{table, table-is}
+use Rattle.meter.specs.Power.{eighths-laws}
 use Rattle.meter.proofs.log.eighths.Statement.{statement}
 use Rattle.meter.proofs.log.eighths.Tie as tie
 
-sub-wide : tie.Need-sub-wide
-sub-wide c = search needs
+eighth-power-requires : tie.Need-eighth-power-requires
+eighth-power-requires c κs = search needs
 
-array-read-wide : tie.Need-array-read-wide
-array-read-wide c = search needs
-
-wide-requires : tie.Need-wide-requires
-wide-requires c κs = search needs
+highest-one-requires : tie.Need-highest-one-requires
+highest-one-requires c κs = search (needs, eighths-laws)
 
 returns : tie.Need-returns
-unfolding table
-returns c = table-is (c .before .args .n) _ _ (c .before .pre .0) (c .before .pre .1) refl (c .wide .ensures)
+returns c = search (needs, eighths-laws)
 
 pub eighths-spec : {M : Type 1} → statement M
-eighths-spec = tie.close (tie.spec sub-wide array-read-wide wide-requires returns)
+eighths-spec = tie.close (tie.spec eighth-power-requires highest-one-requires returns)
