@@ -182,7 +182,7 @@ fn stretch<'a>(s: &'a [u8], h: Shape, gaps: &'a [u64; 255], k: usize) -> u64
     sum
 }
 
-// g(n) - g(c) for each c from 1 to n, in place c - 1: each logarithm is worked out once, and not at each tick.
+// g(n) - g(c) for each c from 1 to n, in place c - 1: the logarithms are worked out once, and not at each tick.
 fn gaps_of(n: usize) -> [u64; 255]
     requires { ⌜ (1 ≤ n) × (n ≤ 255) ⌝ }
     ensures { λ r. ⌜ r ≡ gapsOf n ⌝ }
