@@ -1,15 +1,14 @@
 -- Eight times the base-2 logarithm, rounded down (docs/SPECIFICATION.md §10.2). Assumes nothing.
 use Prim.Native.Nat.{ℕ, _+_, _-_, _^_, _≤_, _<_}
 use mathlib.Core.Path.{_≡_, refl, sym, _∙_}
-use mathlib.Core.Bool.{Bool, true, false, _&&_, true≢false}
+use mathlib.Core.Bool.{true, true≢false}
 use mathlib.Core.Logic.{dite}
 use native.Mathlib.Omega.{arith}
 use native.Mathlib.Decide.{decLt}
 use native.Mathlib.Nat.{pow-le-pow-left, one-le-pow}
 use lib.Pow.{pow-mono}
-use lib.Dec.{leb, ltb}
-use borrow.Author.Tests.{leb-true, ltb-true, ltb-false, lt-ltb}
-use Rattle.bounded.specs.Tests.{and-true}
+use lib.Dec.{ltb}
+use borrow.Author.Tests.{ltb-true, ltb-false, lt-ltb}
 use Rattle.bounded.specs.Least.{leastFrom, least-at, least-before}
 
 -- n to the eighth is at least 2 to the power r, and below twice that power
