@@ -1,10 +1,10 @@
 -- Why 63 minus the leading zeros of n to the eighth is g(n) (docs/SPECIFICATION.md §10.2). Assumes nothing.
-use Prim.Native.Nat.{ℕ, suc, _+_, _-_, _*_, _%_, _^_, _≤_, _<_}
+use Prim.Native.Nat.{ℕ, _+_, _-_, _*_, _%_, _^_, _≤_, _<_}
 use mathlib.Core.Path.{_≡_, refl, sym, ap, subst}
 use native.Mathlib.Omega.{arith}
 use native.Mathlib.Nat.{mul-le-mul, pow-suc, pow-zero, pow-le-pow-left, one-le-pow, div-eq-of-lt, div-eq-of-lt-le}
 use lib.Count.{leadingZeros, leading-le, leading-top}
-use lib.Pow.{pow-mono}
+use lib.Pow.{pow-mono, pow-add}
 use mir.Syntax.{w64}
 use mir.Val.{Fits}
 use Rattle.meter.specs.Log.{Eighths, eighthsOf, eighths-rule, eighths-is}
@@ -72,14 +72,10 @@ by-leading-zeros n some few =
     let r = 63 - leadingZeros 64 x in
     (power-small n few, omega (arith, zeros, eighths-is n r some few (eighths-by n x r refl (highest-is x one small r (omega (arith, zeros))))))
 
--- below the next power: below twice this one
-below-twice : (n r : ℕ) → Eighths n r → n ^ 8 < (1 + 1) * 2 ^ r
-below-twice n r e = let z : suc r ≡ r + 1 = omega arith in omega (arith, e .high, ap (λ (k : ℕ). 2 ^ k) z, pow-suc 2 r)
-
 pub highest-one : HighestOne
 highest-one n some few =
     let e = eighths-rule n some few in
     let r = eighthsOf n in (
-      ap (λ (q : ℕ). q % 2) (div-eq-of-lt-le {k = 1} (2 ^ r) {m = n ^ 8} (omega (arith, e .low)) (below-twice n r e)),
+      ap (λ (q : ℕ). q % 2) (div-eq-of-lt-le {k = 1} (2 ^ r) {m = n ^ 8} (omega (arith, e .low)) (omega (arith, e .high, pow-add 2 r 1))),
       λ p after. ap (λ (q : ℕ). q % 2) (div-eq-of-lt {n = n ^ 8} {m = 2 ^ p} (omega (arith, e .high, pow-mono {i = r + 1} {j = p} (omega arith)))),
     )
