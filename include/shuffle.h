@@ -179,8 +179,8 @@ typedef struct shuffle_judgement {
     uint64_t first;
     uint64_t second;
     /*
-     * V of row i in place i: the budget of its jobs as they arrive, which is taken
-     * as 0 if V is negative. 0 past the last row, and all 0 if the table is refused.
+     * V of row i in place i: no job of the row arrives with a smaller budget; if V is
+     * negative, the budget is 0. 0 past the last row, and all 0 if the table is refused.
      */
     int64_t budgets[SHUFFLE_ROWS];
 } shuffle_judgement;
@@ -200,7 +200,11 @@ shuffle_judgement shuffle_opinion(const uint32_t *words, size_t n);
  */
 shuffle_reply shuffle_start(shuffle_session *session, const uint32_t *words, size_t n);
 
-/* A job of the row arrives now. A choice in force is dropped. Refusals: 5, 6, 7. */
+/*
+ * A job of the row arrives now. Its budget is D - C, less what the other rows can
+ * need by its deadline, by waiting jobs and by those still to come; 0 if the row is
+ * brittle. A choice in force is dropped. Refusals: 5, 6, 7.
+ */
 shuffle_reply shuffle_arrive(shuffle_session *session, uint64_t row);
 
 /*

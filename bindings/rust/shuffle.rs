@@ -146,8 +146,8 @@ pub struct Judgement {
     pub first: u64,
     /// The second value.
     pub second: u64,
-    /// V of row i in place i: the budget of its jobs as they arrive, which is taken as 0 if V is
-    /// negative. 0 past the last row, and in every place if the table is refused.
+    /// V of row i in place i: no job of the row arrives with a smaller budget; if V is negative, the
+    /// budget is 0. 0 past the last row, and in every place if the table is refused.
     pub budgets: [i64; ROWS],
 }
 
@@ -276,7 +276,9 @@ impl Session {
         unsafe { shuffle_start(self, words.as_ptr(), words.len()) }
     }
 
-    /// A job of the row arrives now; a choice in force is dropped. Refusals: 5, 6, 7.
+    /// A job of the row arrives now. Its budget is D − C, less what the other rows can need by its
+    /// deadline, by waiting jobs and by those still to come; 0 if the row is brittle. A choice in
+    /// force is dropped. Refusals: 5, 6, 7.
     pub fn arrive(&mut self, row: u64) -> Reply {
         shuffle_arrive(self, row)
     }

@@ -1,7 +1,8 @@
 /*
- * A host in C that has each choice explained before it makes it: it plays the
- * listing of docs/SPECIFICATION.md, section 7, and prints for each choice the text
- * of its explanation, as an operator's display would show it.
+ * A host in C that has each choice explained before it makes it: it makes the
+ * first two choices of the listing of docs/SPECIFICATION.md, section 7, and a third
+ * one when idle has run for its whole span, and prints for each the text of its
+ * explanation, as an operator's display would show it.
  *
  *   cc -std=c11 -I include examples/hosts/explain.c target/staticlib/libhost.a
  *
@@ -47,7 +48,7 @@ int main(void)
     accepted(shuffle_arrive(&session, 0));
     accepted(shuffle_arrive(&session, 1));
     run(&session, (const uint32_t[]){4, 9}, 2, 1);
-    run(&session, (const uint32_t[]){2, 5}, 2, 2);
+    run(&session, (const uint32_t[]){2, 5}, 2, 6);
     run(&session, (const uint32_t[]){3}, 1, 1);
 
     /* A choice is in force now: 8, and a buffer that is too short would be 15. */

@@ -1,6 +1,7 @@
-// A host in Rust that has each choice explained before it makes it: it plays the listing of
-// docs/SPECIFICATION.md, section 7, and prints for each choice the text of its explanation, as an
-// operator's display would show it.
+// A host in Rust that has each choice explained before it makes it: it makes the first two choices
+// of the listing of docs/SPECIFICATION.md, section 7, and a third one when idle has run for its
+// whole span, and prints for each the text of its explanation, as an operator's display would show
+// it.
 //
 //   rustc --edition 2021 examples/hosts/explain.rs -L native=target/staticlib -l static=host
 //
@@ -43,7 +44,7 @@ fn main() {
     accepted(session.arrive(0));
     accepted(session.arrive(1));
     run(&mut session, &[4, 9], 1);
-    run(&mut session, &[2, 5], 2);
+    run(&mut session, &[2, 5], 6);
     run(&mut session, &[3], 1);
 
     // A choice is in force now: 8, and a buffer that is too short would be 15.

@@ -13,12 +13,16 @@ use Rattle.session.specs.declared.Arrival.{Arrival}
 use Rattle.session.specs.declared.Answer.{Answer}
 use Rattle.session.specs.declared.Answer.the-variants.{Unsound}
 use Rattle.session.specs.declared.Outcome.{Outcome}
+use Rattle.session.specs.declared.sound.Check.{Check}
 use Rattle.session.specs.Reading.{tasks}
 use Rattle.session.specs.Sound.{sound}
 use Rattle.session.specs.Calls.{Shows, shown, refused, arriveIn, arriveOf}
 use Rattle.session.specs.Guard.{guarded-in, guarded-out}
-use Rattle.session.specs.Arrive.{arrive-sound, arrive-rows}
+use Rattle.session.specs.Arrive.{arrive-sound, arrive-rows, arrive-marks}
+use Rattle.session.specs.Brittle.{Marks}
+use Rattle.session.specs.Soundness.{Checks}
 use Rattle.session.specs.Batch.{answered, afterAll, answeredAll}
+use Rattle.calls.specs.Code.{MarkOf, mark-of}
 use Rattle.batch.specs.declared.Shared.{Shared}
 
 -- ---- one record
@@ -26,14 +30,17 @@ use Rattle.batch.specs.declared.Shared.{Shared}
 -- what is known of a session
 pub record Known (s : Session) (g : Shared) : Type 0 where
   pub found : g .sound ≡ sound s
+  pub marks : g .sound ≡ true → Marks s (g .brittle)
   pub inverses : g .sound ≡ true → Inverses (tasks s) (g .inverses)
 
 -- the check finds it
-pub known-sound : (s : Session) (b : Bool) (v : List ℕ) → b ≡ sound s → b ≡ true → Inverses (tasks s) v → Known s (record { sound = true; inverses = v })
-known-sound s b v e t h = record { found = sym t ∙ e; inverses = λ _. h }
+pub known-sound : (s : Session) (c : Check) (v : List ℕ) → Checks s c → c .sound ≡ true → Inverses (tasks s) v
+    → Known s (record { sound = true; brittle = c .brittle; inverses = v })
+known-sound s c v h t e = record { found = sym t ∙ h .sound; marks = λ _. h .marks t; inverses = λ _. e }
 
-pub known-not : (s : Session) (b : Bool) (v : List ℕ) → b ≡ sound s → b ≡ false → Known s (record { sound = false; inverses = v })
-known-not s b v e f = record { found = sym f ∙ e; inverses = λ t. absurd (false≢true t) }
+pub known-not : (s : Session) (c : Check) (v : List ℕ) → Checks s c → c .sound ≡ false
+    → Known s (record { sound = false; brittle = c .brittle; inverses = v })
+known-not s c v h f = record { found = sym f ∙ h .sound; marks = λ t. absurd (false≢true t); inverses = λ t. absurd (false≢true t) }
 
 pub ruleset known-laws = (known-sound, known-not)
 
@@ -44,6 +51,7 @@ module _ (s : Session) (g : Shared) (row : ℕ) (o : Outcome) (k : Known s g) (j
     h,
     record {
       found = rw h (k .found ∙ sym (arrive-sound s row jobs words));
+      marks = λ t. rw h (arrive-marks s row (g .brittle) (k .marks t));
       inverses = λ t. rw (h, arrive-rows s row) (k .inverses t);
     },
   )
@@ -56,8 +64,9 @@ module _ (s : Session) (g : Shared) (row : ℕ) (o : Outcome) (k : Known s g) (j
   unfolding arriveOf
   checked-out f h = still-known (guarded-out s o (arriveIn s row) (g .sound) (k .found) f h)
 
-pub known-asks : (s : Session) (g : Shared) → Known s g → g .sound ≡ true → (sound s ≡ true) × Inverses (tasks s) (g .inverses)
-known-asks s g k t = (sym (k .found) ∙ t, k .inverses t)
+pub known-asks : (s : Session) (g : Shared) (row : ℕ) → Known s g → g .sound ≡ true
+    → (sound s ≡ true) × Inverses (tasks s) (g .inverses) × MarkOf s (g .brittle) row
+known-asks s g row k t = (sym (k .found) ∙ t, k .inverses t, mark-of s (g .brittle) row (k .marks t))
 
 -- its answer is put in its place
 pub filled-is : (a : Arrival) (x : Answer) (n : Numbers) → Shows (shown x) n

@@ -10,26 +10,32 @@ use session::Arrival;
 use session::Outcome;
 use session::Session;
 use session::refuse;
-use session::sound::is_sound;
+use session::sound::check_of;
 
-// What is known of the session before each record: whether it is sound, and if so the inverses of its table's periods.
+// What is known of the session before each record: whether it is sound, and if so, which of its rows are brittle, and the inverses of
+// its table's periods.
 pub struct Shared {
     pub sound: bool,
+    pub brittle: [bool; 16],
     pub inverses: [u64; 16],
 }
 
 fn checked(s: Session) -> Shared
     ensures { λ r. ⌜ Known s r ⌝ }
 {
-    if is_sound(s) {
+    let c = check_of(s);
+    let brittle = c.brittle;
+    if c.sound {
         let inverses = shared_inverses(s);
         return Shared {
             sound: true,
+            brittle,
             inverses,
         };
     }
     Shared {
         sound: false,
+        brittle,
         inverses: [0; 16],
     }
 }
@@ -40,8 +46,9 @@ fn arrive_checked(s: Session, shared: Shared, a: Arrival) -> Outcome
     ensures { λ r. ⌜ (r ≡ arriveOf s (a .row)) × Known (r .session) shared ⌝ }
 {
     let inverses = shared.inverses;
+    let brittle = shared.brittle;
     if shared.sound {
-        return arrive_by(s, &inverses, a.row);
+        return arrive_by(s, &inverses, brittle, a.row);
     }
     refuse(s, Answer::Unsound)
 }

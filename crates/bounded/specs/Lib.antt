@@ -1,6 +1,7 @@
 pub mod Tests
 pub mod Within
 pub mod Sum
+pub mod Besides
 pub mod Counted
 pub mod Product
 pub mod Fold

@@ -57,3 +57,8 @@ pub gate-le : (b : Bool) (x : ℕ) → gate b x ≤ x
 unfolding gate
 gate-le true x = omega arith
 gate-le false x = omega arith
+
+pub gate-mono : (b : Bool) (x y : ℕ) → x ≤ y → gate b x ≤ gate b y
+unfolding gate
+gate-mono true x y h = h
+gate-mono false x y h = omega arith

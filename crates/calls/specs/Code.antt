@@ -1,34 +1,41 @@
 -- The code of the calls: each way out is a case of its definition (docs/SPECIFICATION.md §5.3, §5.5, §5.6). Assumes nothing.
 use Prim.Native.Nat.{ℕ, _+_, _-_, _*_, _≤_, _<_, min}
-use mathlib.Core.Path.{_≡_, refl, sym, ap, _∙_}
-use mathlib.Core.Bool.{Bool, true, false, not, _&&_, cond, true≢false}
+use mathlib.Core.Path.{_≡_, refl, sym, ap, subst, _∙_}
+use mathlib.Core.Bool.{Bool, true, false, not, _&&_, cond}
 use mathlib.Core.List.{List}
 use mathlib.Core.Logic.{⊎-elim, dite}
 use native.Mathlib.Omega.{arith}
 use native.Mathlib.Decide.{ℕ-discrete}
-use lib.Dec.{eqb, ltb, lit≤}
-use lib.IntN.{ℤ, pos, negsuc, natAbs}
-use lib.ListN.{length, getD, set}
+use lib.Dec.{leb, eqb, ltb, lit≤}
+use lib.IntN.{ℤ}
+use lib.ListN.{length, getD, set, replicate, getD-replicate}
 use mir.Syntax.{w64}
 use mir.Val.{Fits}
-use borrow.Author.Tests.{lt-ltb, le-ltb, le-leb, lt-leb, eq-eqb, ne-eqb}
+use borrow.Author.Tests.{lt-ltb, le-ltb, ltb-false, le-leb, lt-leb, eq-eqb, ne-eqb}
+use Rattle.bounded.specs.Tests.{both, gate, gate-on, gate-off, gate-le}
+use Rattle.bounded.specs.Sum.{sumTo, sum-start, sum-next}
+use Rattle.bounded.specs.Besides.{besides}
 use Rattle.bounded.specs.Signed.{negative}
 use Rattle.table.specs.declared.rows.Task.{Task}
-use Rattle.table.specs.Rows.{horizon, FitRow, Fit}
+use Rattle.table.specs.Rows.{horizon, tasksOf, FitRow, Fit}
 use Rattle.bounded.specs.Within.{Within}
-use Rattle.table.specs.Budgets.{budgetOf}
+use Rattle.table.specs.Budgets.{budgetOf, brittle}
+use Rattle.table.specs.declared.inverse.Prepared.{Prepared}
+use Rattle.table.specs.Inverse.{Ready, Tame, tame-of}
 use Rattle.session.specs.declared.Job.{Job}
 use Rattle.session.specs.declared.Session.{Session}
 use Rattle.session.specs.declared.Answer.the-variants.{Arrived, Advanced, Finished, NoRow, TooEarly, NoChoice, BadStep, Idling, ClockEnd}
 use Rattle.session.specs.declared.Outcome.{Outcome}
+use Rattle.edf.specs.Jobs.{jobsBy}
 use Rattle.edf.specs.Demand.{TaskSet}
-use Rattle.session.specs.Reading.{idle, clockEnd, jobAt, tasks, waits, natural, startBudget}
+use Rattle.edf.specs.State.{soonest, pending, toCome, rowLoad, loadBesides}
+use Rattle.session.specs.Reading.{idle, clockEnd, jobAt, rowsOf, tasks, waits, stateOf}
 use Rattle.session.specs.Sound.{sound}
 use Rattle.session.specs.Facts.{Facts, Choice, Running, facts-of, facts-fit}
-use Rattle.session.specs.Arrive.{natural-none}
+use Rattle.session.specs.Arrive.{new-brittle, new-firm}
 use Rattle.session.specs.Ahead.{aheadBy, DueOf, ahead-is}
-use Rattle.session.specs.Brittle.{rows-count, Marks}
-use Rattle.session.specs.Calls.{refused, changed, overJob, withBudget, steppedOf, arrivedBy, arrivedJob, arriveIn, agedJob, overBy, overAfter, advanceIn, unusedOf, gains, givenJob, finishedOf, finishIn}
+use Rattle.session.specs.Brittle.{rows-count, Marks, loose-rows, tight-rows}
+use Rattle.session.specs.Calls.{refused, changed, overJob, withBudget, steppedOf, arrivedBy, arrivedJob, arrivedOf, arriveIn, agedJob, overBy, overAfter, advanceIn, unusedOf, gains, givenJob, finishedOf, finishIn}
 use Rattle.session.specs.Jobs.{doneTo, done-past, done-next}
 
 -- ---- what soundness gives the code
@@ -70,24 +77,129 @@ step-fits s n e ne l = let b = in-force s e ne in record { fits = omega (arith, 
 
 -- ---- arrive
 
-natural-some : (v : ℤ) → negative v ≡ false → natAbs v ≡ natural v
-natural-some (pos n) e = refl
-natural-some (negsuc n) e = absurd (true≢false e)
+-- the remaining ticks of j, where it is due by d; where none waits, nothing remains
+unfoldable pub pendingBy : Job → ℕ → ℕ
+pendingBy j d = gate (leb (j .due) d) (j .left)
 
--- w is what the machine reads back of v
-pub start-none : (v w : ℤ) (b : Bool) → w ≡ v → b ≡ negative w → b ≡ true → 0 ≡ natural v
-start-none v w b r h t = sym (natural-none v (ap negative (sym r) ∙ sym h ∙ t))
+module _ (j : Job) (d : ℕ) where
+  pub pending-later : d < j .due → 0 ≡ pendingBy j d
+  unfolding pendingBy
+  pending-later l = sym (gate-off _ (j .left) (lt-leb (j .due) d l))
 
-pub start-some : (x : ℕ) (v w : ℤ) (b : Bool) → w ≡ v → b ≡ negative w → b ≡ false → x ≡ natAbs w → x ≡ natural v
-start-some x v w b r h f g = g ∙ ap natAbs r ∙ natural-some v (ap negative (sym r) ∙ sym h ∙ f)
+  pub pending-due : j .due ≤ d → j .left ≡ pendingBy j d
+  unfolding pendingBy
+  pending-due l = sym (gate-on _ (j .left) (le-leb (j .due) d l))
 
-pub ruleset start-cases = (start-none, start-some)
+  pending-most : pendingBy j d ≤ j .left
+  unfolding pendingBy
+  pending-most = gate-le _ (j .left)
+
+pub ruleset pending-cases = (pending-later, pending-due)
+
+-- the work of the row k, with its job j, that can still have to be done by x ticks after the clock
+unfoldable pub loadBy : Prepared → Job → ℕ → ℕ → ℕ
+loadBy k j clock x = pendingBy j (clock + x) + k .run * jobsBy (k .deadline) (k .period) (x - (j .next - clock))
+
+-- t are the ticks in which jobs of the row that are still to come can arrive and be due
+pub load-is : (k : Prepared) (j : Job) (clock x g t p w : ℕ) → j .left ≤ 1000000 → p ≡ pendingBy j (clock + x) → g ≡ j .next - clock → t ≡ x - g
+    → Within 1000000000000 (k .run * jobsBy (k .deadline) (k .period) t) w → Within 1000001000000 (loadBy k j clock x) (p + w)
+unfolding loadBy
+load-is k j clock x g t p w few e a b h =
+    record { is = rw (e, h .is, b, a); small = omega (arith, e, h .small, pending-most j (clock + x)) }
+
+pub load-fits : (j : Job) (d p w : ℕ) → j .left ≤ 1000000 → p ≡ pendingBy j d → w ≤ 1000000000000 → Fits w64 (p + w)
+load-fits j d p w few e h = record { fits = omega (arith, e, pending-most j d) }
+
+pub ruleset load-cases = (load-is, load-fits)
+
+-- and that is the theory's
+pending-row : (s : Session) (d i : ℕ) → pendingBy (jobAt s i) d ≡ pending (stateOf s) d i
+unfolding pendingBy pending waits
+pending-row s d i =
+    both (waits s i) (λ w. sym (gate-on (waits s i) _ w))
+    (λ w. omega (arith, ltb-false 0 (jobAt s i .left) w, pending-most (jobAt s i) d, gate-off (waits s i) (pendingBy (jobAt s i) d) w))
+
+load-row : (s : Session) (k : Prepared) (i x : ℕ) → Ready (tasks s) i k → loadBy k (jobAt s i) (s .clock) x ≡ rowLoad (tasks s) (stateOf s) (s .clock + x) i
+unfolding loadBy toCome
+load-row s k i x f =
+    let r = f .row in
+    let e : x - (jobAt s i .next - s .clock) ≡ s .clock + x - soonest (stateOf s) i = omega arith in
+    rw (r .run, r .deadline, r .period, e, pending-row s (s .clock + x) i)
+
+-- what the other rows ask for, row by row, by the deadline of a job of row i that arrives now
+abbrev pub askedOf : Session → ℕ → ℕ → ℕ
+askedOf s i = besides (rowLoad (tasks s) (stateOf s) (s .clock + tasks s .D i)) i
+
+-- the rows that are looked at: none where the row is brittle
+unfoldable pub lookedAt : Bool → ℕ → ℕ
+lookedAt m n = cond m 0 n
+
+module _ (m : Bool) (n : ℕ) where
+  pub looked-none : m ≡ true → Within n (lookedAt m n) 0
+  unfolding lookedAt
+  looked-none e = record { is = sym (simp e); small = omega arith }
+
+  pub looked-all : m ≡ false → Within n (lookedAt m n) n
+  unfolding lookedAt
+  looked-all e = record { is = sym (simp e); small = omega arith }
+
+pub ruleset looked-cases = (looked-none, looked-all)
+
+-- the budget of a new job of the row k, which is brittle or not, where the other rows ask for so much
+unfoldable pub budgetBy : Task → Bool → ℕ → ℕ
+budgetBy k m asked = cond m 0 (k .deadline - (k .run + asked))
+
+module _ (k : Task) (m : Bool) (asked : ℕ) where
+  pub budget-none : m ≡ true → 0 ≡ budgetBy k m asked
+  unfolding budgetBy
+  budget-none e = sym (simp e)
+
+  pub budget-left : (x : ℕ) → m ≡ false → x ≡ k .deadline - (k .run + asked) → x ≡ budgetBy k m asked
+  unfolding budgetBy
+  budget-left x e h = h ∙ sym (simp e)
+
+pub ruleset budget-cases = (budget-none, budget-left)
+
+-- the job that arrives
+abbrev pub arrivingBy : Task → ℕ → Bool → ℕ → Job
+arrivingBy k clock m asked =
+    record { next = clock + k .period; due = clock + k .deadline; left = k .run; budget = budgetBy k m asked }
+
+pub arriving-is : (k : Task) (clock b asked : ℕ) (m : Bool) → b ≡ budgetBy k m asked
+    → record { next = clock + k .period; due = clock + k .deadline; left = k .run; budget = b } ≡ arrivingBy k clock m asked
+arriving-is k clock b asked m e = rw e
+
+-- m says of the row, if there is one, whether it is brittle
+pub record MarkOf (s : Session) (m : List Bool) (row : ℕ) : Type 0 where
+  pub at : row < s .count → getD m row false ≡ brittle (tasks s) row
+
+pub mark-of : (s : Session) (m : List Bool) (row : ℕ) → Marks s m → MarkOf s m row
+mark-of s m row h = record { at = h .at row }
+
+-- and so does b
+pub record Marked (s : Session) (row : ℕ) (b : Bool) : Type 0 where
+  pub is : row < s .count → b ≡ brittle (tasks s) row
+
+module _ (s : Session) (row : ℕ) (e : sound s ≡ true) (places : length (s .words) ≡ 48) where
+  pub marked-loose : s .kind ≡ 1 → Marked s row false
+  marked-loose k = record { is = λ l. sym (loose-rows s (facts-of s e) k row (omega (arith, rows-count s (facts-of s e .few) places))) }
+
+  pub marked-tight : s .kind ≡ 2 → Marked s row true
+  marked-tight k = record { is = λ l. sym (tight-rows s (facts-of s e) k row (omega (arith, rows-count s (facts-of s e .few) places))) }
+
+pub marked-none : (s : Session) (row : ℕ) (b : Bool) → s .count ≤ row → Marked s row b
+marked-none s row b h = record { is = λ l. absurd (omega arith) }
 
 -- w is what the machine reads back of V
-pub arrived-is : (τ : TaskSet) (i clock start : ℕ) (k : Task) (v w : ℤ) → FitRow τ i k → v ≡ budgetOf τ i → w ≡ v → start ≡ natural w
-    → record { next = clock + k .period; due = clock + k .deadline; left = k .run; budget = start } ≡ arrivedBy τ i clock
-unfolding startBudget
-arrived-is τ i clock start k v w f e r g = let u = f .row in rw (u .period, u .deadline, u .run, g, r, e)
+pub marked-value : (s : Session) (row : ℕ) (v w : ℤ) (b : Bool) → v ≡ budgetOf (tasks s) row → w ≡ v → b ≡ negative w → Marked s row b
+unfolding brittle
+marked-value s row v w b e r h = record { is = λ l. h ∙ ap negative (r ∙ e) }
+
+pub ruleset marked-cases = (marked-loose, marked-tight, marked-none, marked-value)
+
+pub mark-alone : (s : Session) (row : ℕ) (b : Bool) → sound s ≡ true → Marked s row b → MarkOf s (replicate 16 b) row
+mark-alone s row b e h =
+    record { at = λ l. getD-replicate 16 row b false (omega (arith, facts-of s e .few)) ∙ h .is l }
 
 module _ (s : Session) (row : ℕ) where
   pub arrive-unknown : (o : Outcome) → s .count ≤ row → o ≡ refused s (NoRow row) → o ≡ arriveIn s row
@@ -98,14 +210,103 @@ module _ (s : Session) (row : ℕ) where
   unfolding arriveIn
   arrive-early o h l e = e ∙ sym (simp (lt-leb (s .count) row h, lt-ltb (s .clock) (jobAt s row .next) l))
 
-  pub arrive-done : (k : Job) → row < s .count → jobAt s row .next ≤ s .clock → k ≡ arrivedJob s row
-      → record { answer = Arrived row (k .due); used = 0; session = changed s (s .clock) (set (s .jobs) row k) 0 0 } ≡ arriveIn s row
-  unfolding arriveIn
-  arrive-done k h l e =
-      ap (λ (k : Job). record { answer = Arrived row (k .due); used = 0; session = changed s (s .clock) (set (s .jobs) row k) 0 0 }) e
-      ∙ sym (simp (lt-leb (s .count) row h, le-ltb (s .clock) (jobAt s row .next) l))
+-- what is known while the other rows are asked, by what the code has read: l the table, m the marks, t the row i itself, n the rows
+-- that are looked at
+pub record Asking (s : Session) (i : ℕ) (l : List ℕ) (m : List Bool) (t : Task) (clock n : ℕ) : Type 0 where
+  pub sound : sound s ≡ true
+  pub places : length (s .words) ≡ 48
+  pub table : l ≡ rowsOf s
+  pub mark : getD m i false ≡ brittle (tasks s) i
+  pub task : FitRow (tasks s) i t
+  pub now : clock ≡ s .clock
+  pub looked : Within (s .count) (lookedAt (getD m i false) (s .count)) n
+  pub known : i < s .count
+  pub ready : jobAt s i .next ≤ s .clock
 
-pub ruleset arrive-cases = (arrive-unknown, arrive-early, arrive-done)
+module _ {s : Session} {i : ℕ} {l : List ℕ} {m : List Bool} {t : Task} {clock n : ℕ} (a : Asking s i l m t clock n) where
+  pub few : s .count ≤ 16
+  few = facts-of s (a .sound) .few
+
+  rows : tasks s .rows ≡ s .count
+  rows = rows-count s few (a .places)
+
+  pub asked-fit : Fit (tasksOf l)
+  asked-fit = rw (a .table) (facts-fit s (facts-of s (a .sound)))
+
+  pub asked-clock : clock ≤ clockEnd
+  asked-clock = omega (arith, a .now, facts-of s (a .sound) .clock)
+
+  pub asked-run : t .run ≤ 1000000
+  asked-run = let d = a .task .row in let r = a .task .rule in omega (arith, d .run, r .fits, r .apart, r .limit)
+
+  pub asked-deadline : t .deadline ≤ 1000000
+  asked-deadline = let d = a .task .row in let r = a .task .rule in omega (arith, d .deadline, r .apart, r .limit)
+
+  pub asked-period : t .period ≤ 1000000
+  asked-period = let d = a .task .row in let r = a .task .rule in omega (arith, d .period, r .limit)
+
+  pub asked-start : 0 ≡ sumTo (askedOf s i) 0
+  asked-start = sum-start (askedOf s i)
+
+  module _ (j : ℕ) (u : j < n) where
+    pub asked-row : j < tasksOf l .rows
+    asked-row = rw (a .table) (omega (arith, rows, a .looked .small))
+
+    pub asked-place : j < 16
+    asked-place = omega (arith, few, a .looked .small)
+
+    pub asked-left : jobAt s j .left ≤ 1000000
+    unfolding waits
+    asked-left =
+        let f = facts-of s (a .sound) in
+        let r = facts-fit s f .row j (omega (arith, rows, a .looked .small)) in
+        both (waits s j) (λ w. omega (arith, f .job j (omega (arith, a .looked .small)) w .most))
+        (λ w. omega (arith, ltb-false 0 (jobAt s j .left) w))
+
+    pub asked-tame : (k : Prepared) → Ready (tasksOf l) j k → Tame k
+    asked-tame k f = tame-of (tasksOf l) j k f
+
+    -- one row more
+    module _ (k : Prepared) (x r : ℕ) (f : Ready (tasksOf l) j k) (w : Within 1000001000000 (gate (not (eqb j i)) (loadBy k (jobAt s j) clock (t .deadline))) r) where
+      pub asked-next : x ≡ sumTo (askedOf s i) j → x + r ≡ sumTo (askedOf s i) (j + 1)
+      asked-next e =
+          let d = a .task .row in
+          let g : Ready (tasks s) j k = subst (λ (z : List ℕ). Ready (tasksOf z) j k) (a .table) f in
+          sum-next (askedOf s i) j x r e (w .is ∙ rw (a .now, load-row s k j (t .deadline) g, d .deadline))
+
+      pub asked-small : x ≤ 1000001000000 * j → x + r ≤ 1000001000000 * (j + 1)
+      asked-small b = omega (arith, w .small)
+
+    pub asked-fits : (x r y : ℕ) → x ≤ 1000001000000 * j → Within 1000001000000 y r → Fits w64 (x + r)
+    asked-fits x r y b w = record { fits = omega (arith, asked-place, w .small) }
+
+  module _ (j x : ℕ) (b : x ≤ 1000001000000 * j) (u : j ≤ n) where
+    pub asked-most : x ≤ 16000016000000
+    asked-most = omega (arith, few, a .looked .small)
+
+    -- the new job is the one that is defined
+    job-is : n ≤ j → x ≡ sumTo (askedOf s i) j → arrivingBy t clock (getD m i false) x ≡ arrivedJob s i
+    unfolding lookedAt budgetBy loadBesides
+    job-is h e =
+        let d = a .task .row in
+        rw (d .period, d .deadline, d .run, a .now)
+        (ap (arrivedBy (tasks s) i (s .clock))
+        (both (getD m i false)
+        (λ q. simp q (sym (new-brittle s i (sym (a .mark) ∙ q))))
+        (λ q.
+        let all : j ≡ tasks s .rows = omega (arith, simp q at (a .looked .is), rows) in
+        simp q (rw (e, all) (sym (new-firm s i (sym (a .mark) ∙ q)))))))
+
+    pub asked-done : (k : Job) → n ≤ j → x ≡ sumTo (askedOf s i) j → k ≡ arrivingBy t clock (getD m i false) x
+        → record { answer = Arrived i (k .due); used = 0; session = changed s (s .clock) (set (s .jobs) i k) 0 0 } ≡ arriveIn s i
+    unfolding arriveIn
+    asked-done k h e g =
+        ap (λ (k : Job). record { answer = Arrived i (k .due); used = 0; session = changed s (s .clock) (set (s .jobs) i k) 0 0 }) (g ∙ job-is h e)
+        ∙ sym (simp (lt-leb (s .count) i (a .known), le-ltb (s .clock) (jobAt s i .next) (a .ready)))
+
+pub ruleset asked-laws = (asked-fit, asked-clock, asked-run, asked-deadline, asked-period, asked-start, asked-row, asked-place, asked-left, asked-tame, asked-next, asked-small, asked-fits, asked-most)
+
+pub ruleset arrive-cases = (arrive-unknown, arrive-early)
 
 -- ---- finish
 

@@ -1,57 +1,99 @@
 // A job of a row arrives (docs/SPECIFICATION.md §5.3).
 ghost use mathlib.Core.Path.{_≡_};
-ghost use mathlib.Core.Bool.{true};
-ghost use Prim.Native.Nat.{_≤_, _<_};
-ghost use Rattle.table.specs.Rows.{tasksOf, Fit};
-ghost use Rattle.table.specs.Inverse.{Inverses};
-ghost use Rattle.session.specs.Reading.{clockEnd, tasks, natural};
+ghost use mathlib.Core.Bool.{true, not};
+ghost use Prim.Native.Nat.{_+_, _≤_, _<_};
+ghost use Rattle.bounded.specs.Tests.{gate};
+ghost use Rattle.bounded.specs.Within.{Within};
+ghost use Rattle.table.specs.Inverse.{Inverses, Tame};
+ghost use Rattle.session.specs.Reading.{clockEnd, tasks};
 ghost use Rattle.session.specs.Sound.{sound};
-ghost use Rattle.session.specs.Calls.{arrivedBy, arriveIn, arriveOf};
+ghost use Rattle.session.specs.Calls.{arriveIn, arriveOf};
+ghost use Rattle.calls.specs.Code.{pendingBy, loadBy, lookedAt, budgetBy, arrivingBy, MarkOf, Marked};
+use bounded::less;
 use session::Answer;
 use session::Job;
 use session::Outcome;
 use session::Session;
 use session::refuse;
-use session::sound::is_sound;
+use session::sound::check_of;
+use table::budgets::below_zero;
+use table::budgets::value_of;
+use table::demand::owe;
+use table::inverse::Prepared;
 use table::inverse::inverses_of;
+use table::inverse::prepare;
+use table::inverse::prepare_alone;
+use table::rows::Task;
+use table::rows::fit_row;
 
-// A row's starting budget: V, and 0 where that is negative.
-fn start_budget(v: i64) -> u64
-    ensures { λ r. ⌜ r ≡ natural v ⌝ }
+// The remaining ticks of a job that is due by d; where none waits, that is 0.
+fn pending(j: Job, d: u64) -> u64
+    ensures { λ r. ⌜ r ≡ pendingBy j d ⌝ }
 {
-    if table::budgets::below_zero(v) {
+    if d < j.due {
         return 0;
     }
-    table::budgets::magnitude(v)
+    j.left
 }
 
-// The job that arrives now in row i of a table, by the inverses of its periods.
-fn arriving_by(rows: &[u32], inverses: &[u64; 16], i: usize, clock: u64) -> Job
-    requires { ⌜ Fit (tasksOf (now rows)) × Inverses (tasksOf (now rows)) (now inverses) × (i < tasksOf (now rows) .rows) × (clock ≤ clockEnd) ⌝ }
-    ensures { λ r. ⌜ r ≡ arrivedBy (tasksOf (now (rows .entry))) i clock ⌝ }
+// The work of the row k, with its job j, that can still have to be done by x ticks after the clock: by the job, and by those still
+// to come, the first of which can arrive now or where `next` is ahead.
+fn row_load(k: Prepared, j: Job, clock: u64, x: u64) -> u64
+    requires { ⌜ Tame k × (j .left ≤ 1000000) × (clock ≤ clockEnd) × (x ≤ 1000000) ⌝ }
+    ensures { λ r. ⌜ Within 1000001000000 (loadBy k j clock x) r ⌝ }
 {
-    let k = table::rows::fit_row(rows, i);
-    let v = table::budgets::value_of(rows, inverses, i);
-    let start = start_budget(v);
+    let t = less(x, less(j.next, clock));
+    pending(j, clock + x) + owe(k, t)
+}
+
+// The same, and nothing of the row itself whose job arrives.
+fn charge(k: Prepared, own: bool, j: Job, clock: u64, x: u64) -> u64
+    requires { ⌜ Tame k × (j .left ≤ 1000000) × (clock ≤ clockEnd) × (x ≤ 1000000) ⌝ }
+    ensures { λ r. ⌜ Within 1000001000000 (gate (not own) (loadBy k j clock x)) r ⌝ }
+{
+    if own {
+        return 0;
+    }
+    row_load(k, j, clock, x)
+}
+
+// How many rows are looked at: none where the row of the new job is brittle.
+fn looked_at(brittle: bool, rows: usize) -> usize
+    ensures { λ r. ⌜ Within rows (lookedAt brittle rows) r ⌝ }
+{
+    if brittle { 0 } else { rows }
+}
+
+// The budget of a new job of the row k, where other rows ask for so much by its deadline. In a sound session that leaves some of
+// D − C, or all: `less` cuts off nothing (`BudgetWhole` in crates/guarantee/specs/Statement.antt).
+fn budget(k: Task, brittle: bool, asked: u64) -> u64
+    requires { ⌜ (k .run ≤ 1000000) × (asked ≤ 16000016000000) ⌝ }
+    ensures { λ r. ⌜ r ≡ budgetBy k brittle asked ⌝ }
+{
+    if brittle {
+        return 0;
+    }
+    less(k.deadline, k.run + asked)
+}
+
+// The job that arrives now in the row k.
+fn arriving(k: Task, clock: u64, brittle: bool, asked: u64) -> Job
+    requires { ⌜ (k .run ≤ 1000000) × (k .deadline ≤ 1000000) × (k .period ≤ 1000000) × (clock ≤ clockEnd) × (asked ≤ 16000016000000) ⌝ }
+    ensures { λ r. ⌜ r ≡ arrivingBy k clock brittle asked ⌝ }
+{
+    let budget = budget(k, brittle, asked);
     Job {
         next: clock + k.period,
         due: clock + k.deadline,
         left: k.run,
-        budget: start,
+        budget,
     }
 }
 
-fn arriving(rows: &[u32], i: usize, clock: u64) -> Job
-    requires { ⌜ Fit (tasksOf (now rows)) × (i < tasksOf (now rows) .rows) × (clock ≤ clockEnd) ⌝ }
-    ensures { λ r. ⌜ r ≡ arrivedBy (tasksOf (now (rows .entry))) i clock ⌝ }
-{
-    let inverses = inverses_of(rows);
-    arriving_by(rows, &inverses, i, clock)
-}
-
-// `arrive` without its check, for callers who can prove that the session is sound.
-pub fn arrive_sound(s: Session, row: u64) -> Outcome
-    requires { ⌜ sound s ≡ true ⌝ }
+// `arrive` of a sound session, by its brittle rows, of which only this one's mark is looked at. One pass over the rows, and a
+// division for each. Only q is indexed, so that the record is not copied once more to read it.
+fn arrive_marked(s: Session, brittle: [bool; 16], row: u64) -> Outcome
+    requires { ⌜ (sound s ≡ true) × MarkOf s brittle row ⌝ }
     ensures { λ r. ⌜ r ≡ arriveIn s row ⌝ }
 {
     let count = s.count;
@@ -60,22 +102,76 @@ pub fn arrive_sound(s: Session, row: u64) -> Outcome
     }
     let i = row as usize;
     let clock = s.clock;
-    // Only q is indexed, so that the record is not copied once more to read it.
     let mut q = s;
-    let j = q.jobs[i];
-    if clock < j.next {
-        return refuse(s, Answer::TooEarly { row, next: j.next });
+    let old = q.jobs[i];
+    if clock < old.next {
+        let next = old.next;
+        return refuse(s, Answer::TooEarly { row, next });
     }
-    let words = s.words;
+    let words = q.words;
     let e = 3 * (count as usize);
-    let k = arriving(&words[..e], i, clock);
-    q.jobs[i] = k;
+    let rows = &words[..e];
+    let k = fit_row(rows, i);
+    let n = looked_at(brittle[i], count as usize);
+    let mut asked: u64 = 0;
+    let mut j: usize = 0;
+    while j < n {
+        let p = prepare_alone(rows, j);
+        asked = asked + charge(p, j == i, q.jobs[j], clock, k.deadline);
+        j = j + 1;
+    }
+    let job = arriving(k, clock, brittle[i], asked);
+    q.jobs[i] = job;
     q.chosen = 0;
     q.span = 0;
+    let due = job.due;
     Outcome {
-        answer: Answer::Arrived { row, due: k.due },
+        answer: Answer::Arrived { row, due },
         used: 0,
         session: q,
+    }
+}
+
+// `arrive_marked` with the inverses of the table's periods, for callers who have them: no division. It is a second body, since the
+// compiler puts a function into its only caller: with one body for both, a checked arrive takes a copy of the record more
+// (docs/PERFORMANCE.md).
+pub fn arrive_by(s: Session, inverses: &[u64; 16], brittle: [bool; 16], row: u64) -> Outcome
+    requires { ⌜ (sound s ≡ true) × Inverses (tasks s) (now inverses) × MarkOf s brittle row ⌝ }
+    ensures { λ r. ⌜ r ≡ arriveIn s row ⌝ }
+{
+    let count = s.count;
+    if count <= row {
+        return refuse(s, Answer::NoRow(row));
+    }
+    let i = row as usize;
+    let tick = s.clock;
+    let mut t = s;
+    let old = t.jobs[i];
+    if tick < old.next {
+        let next = old.next;
+        return refuse(s, Answer::TooEarly { row, next });
+    }
+    let words = t.words;
+    let e = 3 * (count as usize);
+    let rows = &words[..e];
+    let k = fit_row(rows, i);
+    let n = looked_at(brittle[i], count as usize);
+    let mut asked: u64 = 0;
+    let mut j: usize = 0;
+    while j < n {
+        let p = prepare(rows, inverses, j);
+        asked = asked + charge(p, j == i, t.jobs[j], tick, k.deadline);
+        j = j + 1;
+    }
+    let job = arriving(k, tick, brittle[i], asked);
+    t.jobs[i] = job;
+    t.chosen = 0;
+    t.span = 0;
+    let due = job.due;
+    Outcome {
+        answer: Answer::Arrived { row, due },
+        used: 0,
+        session: t,
     }
 }
 
@@ -90,41 +186,45 @@ pub fn shared_inverses(s: Session) -> [u64; 16]
     inverses_of(&words[..e])
 }
 
-// `arrive_sound` with these inverses, for callers who can prove that they are the table's too. It is a second body, since the
-// compiler puts a function into its only caller: with one body for both, a checked arrive with one row takes a quarter longer
-// (docs/PERFORMANCE.md).
-pub fn arrive_by(s: Session, inverses: &[u64; 16], row: u64) -> Outcome
+// Whether a row of the table is brittle; only in a mixed session that takes its V.
+fn brittle_row(s: Session, inverses: &[u64; 16], row: u64) -> bool
     requires { ⌜ (sound s ≡ true) × Inverses (tasks s) (now inverses) ⌝ }
-    ensures { λ r. ⌜ r ≡ arriveIn s row ⌝ }
+    ensures { λ r. ⌜ Marked s row r ⌝ }
 {
+    let kind = s.kind;
     let count = s.count;
-    if count <= row {
-        return refuse(s, Answer::NoRow(row));
+    if kind == 1 {
+        return false;
     }
-    let i = row as usize;
-    let mut t = s;
-    let j = t.jobs[i];
-    if s.clock < j.next {
-        return refuse(s, Answer::TooEarly { row, next: j.next });
+    if kind == 2 {
+        return true;
+    }
+    if count <= row {
+        return false;
     }
     let words = s.words;
     let e = 3 * (count as usize);
-    let k = arriving_by(&words[..e], inverses, i, s.clock);
-    t.jobs[i] = k;
-    t.chosen = 0;
-    t.span = 0;
-    Outcome {
-        answer: Answer::Arrived { row, due: k.due },
-        used: 0,
-        session: t,
-    }
+    let v = value_of(&words[..e], inverses, row as usize);
+    below_zero(v)
+}
+
+// `arrive` without its check, for callers who can prove that the session is sound.
+pub fn arrive_sound(s: Session, row: u64) -> Outcome
+    requires { ⌜ sound s ≡ true ⌝ }
+    ensures { λ r. ⌜ r ≡ arriveIn s row ⌝ }
+{
+    let inverses = shared_inverses(s);
+    let mark = brittle_row(s, &inverses, row);
+    arrive_by(s, &inverses, [mark; 16], row)
 }
 
 pub fn arrive(s: Session, row: u64) -> Outcome
     ensures { λ r. ⌜ r ≡ arriveOf s row ⌝ }
 {
-    if is_sound(s) {
-        return arrive_sound(s, row);
+    let c = check_of(s);
+    let brittle = c.brittle;
+    if c.sound {
+        return arrive_marked(s, brittle, row);
     }
     refuse(s, Answer::Unsound)
 }

@@ -15,17 +15,18 @@ use Rattle.bounded.specs.Quotient.{ceilDiv}
 use Rattle.bounded.specs.Least.{leastFrom}
 use Rattle.edf.specs.Jobs.{jobsBy}
 use Rattle.edf.specs.Demand.{demand, request, interference}
+use Rattle.edf.specs.State.{pending, toCome, loadBesides}
 use Rattle.table.specs.Rows.{tasksOf, rowRule, broken, firstBroken}
 use Rattle.table.specs.Budgets.{budgetOf, brittle, looseTo, loose, firmTo, firm, valuesTo, valuesOf}
 use Rattle.table.specs.Busy.{busyLength}
 use Rattle.table.specs.Verdict.{admitted, badLength, firstOverload, overloaded, heavyKind, judgedOf, opinionOf}
 use Rattle.session.specs.declared.Job.{Job}
 use Rattle.session.specs.declared.Session.{Session}
-use Rattle.session.specs.Reading.{clockEnd, noJob, rowsOf, waits, ahead, startBudget, mostBudget}
+use Rattle.session.specs.Reading.{clockEnd, noJob, rowsOf, waits, ahead, mostBudget}
 use Rattle.session.specs.Sound.{soundRows, soundWaiting, soundJob, runs, affords, soundChoice, sound}
 use Rattle.session.specs.Order.{arrivalOf, cameBefore, before, isHead, headOf, permits, brittleDue, near, candidate, idles, candidates, position, rowWith, candidateAt}
 use Rattle.session.specs.Choose.{drawLimit, passedOver, draw, drawUsed, contested, drawn, pickOf, room, unopposed, lengthDrawn, spanOf, pickUsed, usedOf}
-use Rattle.session.specs.Calls.{Shown, shown, three, arriveIn, chooseIn, jobsWith, agedJob, overBy, overAfter, advanceIn, gains, givenJob, finishIn, arriveOf, chooseOf, advanceOf, finishOf}
+use Rattle.session.specs.Calls.{Shown, shown, three, arrivalBudget, newBudget, arriveIn, chooseIn, jobsWith, agedJob, overBy, overAfter, advanceIn, gains, givenJob, finishIn, arriveOf, chooseOf, advanceOf, finishOf}
 use Rattle.session.specs.Start.{wordsTo, freshOf, startOf, sessionOf}
 use Rattle.guarantee.specs.Ledger.{Call, arrive, choose, advance, finish}
 use Rattle.guarantee.specs.Statement.{outcomeOf}
@@ -169,32 +170,32 @@ abbrev f₀ : Session
 f₀ = four noJob noJob noJob noJob 0 0 0
 
 abbrev f₁ : Session
-f₁ = four (job 100 20 2 5) noJob noJob noJob 0 0 0
+f₁ = four (job 100 20 2 18) noJob noJob noJob 0 0 0
 
 abbrev f₂ : Session
-f₂ = four (job 100 20 2 5) (job 100 30 5 15) noJob noJob 0 0 0
+f₂ = four (job 100 20 2 18) (job 100 30 5 20) noJob noJob 0 0 0
 
 abbrev f₃ : Session
-f₃ = four (job 100 20 2 5) (job 100 30 5 15) (job 100 30 3 15) noJob 0 0 0
+f₃ = four (job 100 20 2 18) (job 100 30 5 20) (job 100 30 3 20) noJob 0 0 0
 
 abbrev f₄ : Session
-f₄ = four (job 100 20 2 5) (job 100 30 5 15) (job 100 30 3 15) (job 100 40 4 25) 0 0 0
+f₄ = four (job 100 20 2 18) (job 100 30 5 20) (job 100 30 3 20) (job 100 40 4 26) 0 0 0
 
 abbrev f₅ : Session
-f₅ = four (job 100 20 2 5) (job 100 30 5 15) (job 100 30 3 15) (job 100 40 4 25) 0 1 3
+f₅ = four (job 100 20 2 18) (job 100 30 5 20) (job 100 30 3 20) (job 100 40 4 26) 0 1 3
 
--- before and after row 1 is over, where row 3 has the budget b; calls lead to 25 and 28
+-- before and after row 1 is over, where row 3 has the budget b; calls lead to 26 and 29
 abbrev f₆ : ℕ → Session
-f₆ b = four (job 100 20 2 3) (job 100 30 3 15) (job 100 30 3 15) (job 100 40 4 b) 2 1 1
+f₆ b = four (job 100 20 2 16) (job 100 30 3 20) (job 100 30 3 20) (job 100 40 4 b) 2 1 1
 
 abbrev f₇ : ℕ → Session
-f₇ b = four (job 100 20 2 3) (job 100 0 0 0) (job 100 30 3 15) (job 100 40 4 b) 2 0 0
+f₇ b = four (job 100 20 2 16) (job 100 0 0 0) (job 100 30 3 20) (job 100 40 4 b) 2 0 0
 
 abbrev f₈ : Session
-f₈ = four (job 100 20 2 3) (job 100 0 0 0) (job 100 30 3 15) (job 100 40 4 28) 2 0 2
+f₈ = four (job 100 20 2 16) (job 100 0 0 0) (job 100 30 3 20) (job 100 40 4 29) 2 0 2
 
 abbrev f₉ : Session
-f₉ = four (job 100 0 0 0) (job 100 0 0 0) (job 100 30 3 17) (job 100 40 4 30) 2 0 0
+f₉ = four (job 100 0 0 0) (job 100 0 0 0) (job 100 30 3 22) (job 100 40 4 31) 2 0 0
 
 -- the listing's table, and its sessions from call to call
 abbrev listing : List ℕ
@@ -207,35 +208,33 @@ abbrev s₀ : Session
 s₀ = at noJob noJob 0 0 0
 
 abbrev s₁ : Session
-s₁ = at (job 10 10 2 5) noJob 0 0 0
+s₁ = at (job 10 10 2 8) noJob 0 0 0
 
 abbrev s₂ : Session
-s₂ = at (job 10 10 2 5) (job 20 15 3 8) 0 0 0
+s₂ = at (job 10 10 2 8) (job 20 15 3 10) 0 0 0
 
 abbrev s₃ : Session
-s₃ = at (job 10 10 2 5) (job 20 15 3 8) 0 1 1
+s₃ = at (job 10 10 2 8) (job 20 15 3 10) 0 1 1
 
 abbrev s₄ : Session
-s₄ = at (job 10 10 2 4) (job 20 15 2 8) 1 0 0
+s₄ = at (job 10 10 2 7) (job 20 15 2 10) 1 0 0
 
 abbrev s₅ : Session
-s₅ = at (job 10 10 2 4) (job 20 15 2 8) 1 16 2
+s₅ = at (job 10 10 2 7) (job 20 15 2 10) 1 16 6
 
 abbrev s₆ : Session
-s₆ = at (job 10 10 2 2) (job 20 15 2 6) 3 0 0
+s₆ = at (job 10 10 2 5) (job 20 15 2 8) 3 16 4
 
 abbrev s₇ : Session
-s₇ = at (job 10 10 2 2) (job 20 15 2 6) 3 0 2
-
-abbrev s₈ : Session
-s₈ = at (job 10 10 1 2) (job 20 15 2 6) 4 0 1
-
-abbrev s₉ : Session
-s₉ = at (job 10 0 0 0) (job 20 15 2 7) 4 0 0
+s₇ = at (job 10 10 2 4) (job 20 15 2 7) 4 16 3
 
 -- s₂ with a choice: c for n ticks
 abbrev s₂With : ℕ → ℕ → Session
-s₂With c n = at (job 10 10 2 5) (job 20 15 3 8) 0 c n
+s₂With c n = at (job 10 10 2 8) (job 20 15 3 10) 0 c n
+
+-- at 7, where nothing has arrived yet
+abbrev late : Session
+late = at noJob noJob 7 0 0
 
 -- sessions of the mixed table, whose rows 2 and 3 are brittle, from call to call: rows 0 and 3 arrive at 0, due at 10 and 12,
 -- and row 2 at 2, due at 7
@@ -246,47 +245,47 @@ abbrev m₀ : Session
 m₀ = mixed noJob noJob noJob noJob 0 0 0
 
 abbrev m₁ : Session
-m₁ = mixed (job 10 10 4 1) noJob noJob noJob 0 0 0
+m₁ = mixed (job 10 10 4 4) noJob noJob noJob 0 0 0
 
 abbrev m₂ : Session
-m₂ = mixed (job 10 10 4 1) noJob noJob (job 12 12 2 0) 0 0 0
+m₂ = mixed (job 10 10 4 4) noJob noJob (job 12 12 2 0) 0 0 0
 
 abbrev m₃ : Session
-m₃ = mixed (job 10 10 4 1) noJob noJob (job 12 12 2 0) 0 0 4
+m₃ = mixed (job 10 10 4 4) noJob noJob (job 12 12 2 0) 0 0 4
 
 abbrev m₄ : Session
-m₄ = mixed (job 10 10 2 1) noJob noJob (job 12 12 2 0) 2 0 2
+m₄ = mixed (job 10 10 2 4) noJob noJob (job 12 12 2 0) 2 0 2
 
 abbrev m₅ : Session
-m₅ = mixed (job 10 10 2 1) noJob (job 7 7 1 0) (job 12 12 2 0) 2 0 0
+m₅ = mixed (job 10 10 2 4) noJob (job 7 7 1 0) (job 12 12 2 0) 2 0 0
 
 abbrev m₆ : Session
-m₆ = mixed (job 10 10 2 1) noJob (job 7 7 1 0) (job 12 12 2 0) 2 2 1
+m₆ = mixed (job 10 10 2 4) noJob (job 7 7 1 0) (job 12 12 2 0) 2 2 1
 
 -- at 3, where the next job of row 2 can arrive at x; calls lead to 7
 abbrev m₇ : ℕ → Session
-m₇ x = mixed (job 10 10 2 1) noJob (job x 0 0 0) (job 12 12 2 0) 3 0 0
+m₇ x = mixed (job 10 10 2 4) noJob (job x 0 0 0) (job 12 12 2 0) 3 0 0
 
 -- the same with a choice: c for n ticks
 abbrev m₇With : ℕ → ℕ → ℕ → Session
-m₇With x c n = mixed (job 10 10 2 1) noJob (job x 0 0 0) (job 12 12 2 0) 3 c n
+m₇With x c n = mixed (job 10 10 2 4) noJob (job x 0 0 0) (job 12 12 2 0) 3 c n
 
 -- the same where the budgets of rows 0 and 3 are a and b
 abbrev m₇Has : ℕ → ℕ → Session
 m₇Has a b = mixed (job 10 10 2 a) noJob (job 7 0 0 0) (job 12 12 2 b) 3 0 0
 
 abbrev m₈ : Session
-m₈ = mixed (job 10 10 2 1) (job 23 23 1 3) (job 7 0 0 0) (job 12 12 2 0) 3 0 0
+m₈ = mixed (job 10 10 2 4) (job 23 23 1 8) (job 7 0 0 0) (job 12 12 2 0) 3 0 0
 
 abbrev m₉ : Session
-m₉ = mixed (job 10 10 2 1) (job 23 23 1 3) (job 7 0 0 0) (job 12 12 2 0) 3 0 2
+m₉ = mixed (job 10 10 2 4) (job 23 23 1 8) (job 7 0 0 0) (job 12 12 2 0) 3 0 2
 
 abbrev m₁₀ : Session
-m₁₀ = mixed (job 10 0 0 0) (job 23 23 1 5) (job 7 0 0 0) (job 12 12 2 0) 3 0 0
+m₁₀ = mixed (job 10 0 0 0) (job 23 23 1 10) (job 7 0 0 0) (job 12 12 2 0) 3 0 0
 
 -- rows 0 and 1 wait, both with budget
 abbrev both-wait : Session
-both-wait = mixed (job 10 10 4 1) (job 20 20 1 3) noJob noJob 0 0 0
+both-wait = mixed (job 10 10 4 4) (job 20 20 1 5) noJob noJob 0 0 0
 
 pub mixed-cases : List Case
 mixed-cases =
@@ -301,7 +300,7 @@ mixed-cases =
     ∷ is (called m₆ (advance 1)) (outcome (three 0 0 1) 0 (m₇ 7))
     ∷ is (brittleBy (m₇ 7)) (ticks 12)
     ∷ is (chosenFrom (m₇ 7) 4) (flags (true ∷ false ∷ false ∷ true ∷ false ∷ []))
-    ∷ is (called (m₇ 7) (choose (1 ∷ []))) (outcome (three 0 3 1) 1 (m₇With 7 3 1))
+    ∷ is (called (m₇ 7) (choose (1 ∷ []))) (outcome (three 0 3 2) 1 (m₇With 7 3 2))
     ∷ is (brittleBy (m₇ 6)) (ticks 11)
     ∷ is (chosenFrom (m₇ 6) 4) (flags (true ∷ false ∷ false ∷ false ∷ false ∷ []))
     ∷ is (called (m₇ 6) (choose (1 ∷ []))) (outcome (three 0 0 2) 0 (m₇With 6 0 2))
@@ -348,9 +347,9 @@ cases =
     ∷ is (called f₂ (arrive 2)) (outcome (three 0 2 30) 0 f₃)
     ∷ is (called f₃ (arrive 3)) (outcome (three 0 3 40) 0 f₄)
     ∷ is (called f₄ (choose (1 ∷ 2 ∷ []))) (outcome (three 0 1 3) 2 f₅)
-    ∷ is (called f₅ (advance 2)) (outcome (three 0 1 0) 0 (f₆ 25))
-    ∷ is (called (f₆ 25) finish) (outcome (three 0 1 3) 0 (f₇ 28))
-    ∷ is (called (f₇ 28) (choose [])) (outcome (three 0 0 2) 0 f₈)
+    ∷ is (called f₅ (advance 2)) (outcome (three 0 1 0) 0 (f₆ 26))
+    ∷ is (called (f₆ 26) finish) (outcome (three 0 1 3) 0 (f₇ 29))
+    ∷ is (called (f₇ 29) (choose [])) (outcome (three 0 0 2) 0 f₈)
     ∷ is (called f₈ finish) (outcome (three 0 0 2) 0 f₉)
     ∷ is (called (f₆ 33) finish) (outcome (three 0 1 3) 0 (f₇ 36))
     ∷ is (called (f₆ 34) finish) (outcome (three 0 1 3) 0 (f₇ 36))
@@ -361,15 +360,16 @@ cases =
     ∷ is (called s₁ (arrive 1)) (outcome (three 0 1 15) 0 s₂)
     ∷ is (called s₂ (choose (4 ∷ 9 ∷ []))) (outcome (three 0 1 1) 2 s₃)
     ∷ is (called s₃ (advance 1)) (outcome (three 0 0 0) 0 s₄)
-    ∷ is (called s₄ (choose (2 ∷ 5 ∷ []))) (outcome (three 0 16 2) 2 s₅)
-    ∷ is (called s₅ (advance 2)) (outcome (three 0 0 0) 0 s₆)
-    ∷ is (called s₆ (choose (3 ∷ []))) (outcome (three 0 0 2) 1 s₇)
-    ∷ is (called s₇ (advance 1)) (outcome (three 0 1 0) 0 s₈)
-    ∷ is (called s₈ finish) (outcome (three 0 0 1) 0 s₉)
-    ∷ is (called s₉ (arrive 0)) (outcome (three 7 0 10) 0 s₉)
+    ∷ is (called s₄ (choose (2 ∷ 5 ∷ []))) (outcome (three 0 16 6) 2 s₅)
+    ∷ is (called s₅ (advance 2)) (outcome (three 0 4 0) 0 s₆)
+    ∷ is (called s₆ (choose (3 ∷ []))) (outcome (three 8 4 0) 0 s₆)
+    ∷ is (called s₆ (advance 1)) (outcome (three 0 3 0) 0 s₇)
+    ∷ is (called s₇ finish) (outcome (three 11 0 0) 0 s₇)
+    ∷ is (called s₇ (arrive 0)) (outcome (three 7 0 10) 0 s₇)
+    ∷ is (called late (arrive 1)) (outcome (three 0 1 22) 0 (at noJob (job 27 22 3 10) 7 0 0))
     ∷ is (called s₂ (choose (4294967295 ∷ 4 ∷ 9 ∷ []))) (outcome (three 0 1 1) 3 s₃)
     ∷ is (called s₂ (choose (4 ∷ 4294967295 ∷ 9 ∷ []))) (outcome (three 0 1 1) 3 s₃)
-    ∷ is (called s₂ (choose (4294967294 ∷ 5 ∷ []))) (outcome (three 0 16 1) 2 (s₂With 16 1))
+    ∷ is (called s₂ (choose (4294967294 ∷ 5 ∷ []))) (outcome (three 0 16 6) 2 (s₂With 16 6))
     ∷ is (called s₂ (choose (4294967295 ∷ 4294967295 ∷ []))) (outcome (three 0 0 2) 2 (s₂With 0 2))
     ∷ is (called s₂ (choose (4 ∷ 4294967295 ∷ []))) (outcome (three 0 1 3) 2 (s₂With 1 3))
     ∷ is (opened heavy) (fresh m₀)
@@ -445,7 +445,7 @@ All (c ∷ l) = Holds c × All l
 
 -- the mixed moments
 mixed-moments : All mixed-cases
-unfolding mixed-cases tasksOf allTo brittle budgetOf foldTo interference sumTo gate ceilDiv leastFrom rowsOf waits ahead startBudget mostBudget soundWaiting soundJob runs affords soundChoice arrivalOf cameBefore before isHead headOf permits brittleDue near candidate idles candidates position rowWith candidateAt drawLimit passedOver draw drawUsed contested drawn pickOf room unopposed lengthDrawn spanOf pickUsed usedOf arriveIn chooseIn jobsWith agedJob overBy overAfter advanceIn gains givenJob finishIn
+unfolding mixed-cases tasksOf allTo brittle budgetOf foldTo interference sumTo gate jobsBy ceilDiv leastFrom rowsOf waits ahead mostBudget pending toCome loadBesides arrivalBudget newBudget soundWaiting soundJob runs affords soundChoice arrivalOf cameBefore before isHead headOf permits brittleDue near candidate idles candidates position rowWith candidateAt drawLimit passedOver draw drawUsed contested drawn pickOf room unopposed lengthDrawn spanOf pickUsed usedOf arriveIn chooseIn jobsWith agedJob overBy overAfter advanceIn gains givenJob finishIn
 mixed-moments =
     let ok : (s : Session) → rowsOf s ≡ heavy → s .kind ≡ 3 → s .count ≡ 4 → (leb (s .clock) clockEnd && (allTo (soundJob s) (s .count) && soundChoice s)) ≡ true → sound s ≡ true =
     λ s e k n h. mixed-sound s e k n ∙ h in (
@@ -514,17 +514,17 @@ mixed-moments =
     )
 
 pub every-case : All cases
-unfolding cases opinionOf judgedOf badLength firstBroken broken rowRule tasksOf loose looseTo allTo budgetOf valuesOf valuesTo foldTo interference demand request sumTo gate jobsBy ceilDiv leastFrom rowsOf waits ahead brittle startBudget mostBudget soundRows soundWaiting soundJob runs affords soundChoice sound arrivalOf cameBefore before isHead headOf permits brittleDue near candidate idles candidates position rowWith candidateAt drawLimit passedOver draw drawUsed contested drawn pickOf room unopposed lengthDrawn spanOf pickUsed usedOf arriveIn chooseIn jobsWith agedJob overBy overAfter advanceIn gains givenJob finishIn arriveOf chooseOf advanceOf finishOf wordsTo freshOf startOf
+unfolding cases opinionOf judgedOf badLength firstBroken broken rowRule tasksOf loose looseTo allTo budgetOf valuesOf valuesTo foldTo interference demand request sumTo gate jobsBy ceilDiv leastFrom rowsOf waits ahead brittle mostBudget pending toCome loadBesides arrivalBudget newBudget soundRows soundWaiting soundJob runs affords soundChoice sound arrivalOf cameBefore before isHead headOf permits brittleDue near candidate idles candidates position rowWith candidateAt drawLimit passedOver draw drawUsed contested drawn pickOf room unopposed lengthDrawn spanOf pickUsed usedOf arriveIn chooseIn jobsWith agedJob overBy overAfter advanceIn gains givenJob finishIn arriveOf chooseOf advanceOf finishOf wordsTo freshOf startOf
 every-case =
     (refl, (refl, (rw heavy-opinion, (refl, (rw heavy-busy, (long-verdict, (rw long-busy, (refl, (refl, (over-verdict, (refl, (refl, equals))))))))))))
   where
     -- words that are passed over
-    passed : All (drop 51 cases)
+    passed : All (drop 52 cases)
     passed = (refl, (refl, (refl, (refl, (refl, (rw (opened-by heavy 3 heavy-opinion), mixed-moments))))))
 
-    -- the listing
+    -- the listing, and a job that counts jobs to come from the clock on
     listed : All (drop 40 cases)
-    listed = (refl, (refl, (refl, (refl, (refl, (refl, (refl, (refl, (refl, (refl, (refl, passed)))))))))))
+    listed = (refl, (refl, (refl, (refl, (refl, (refl, (refl, (refl, (refl, (refl, (refl, (refl, passed))))))))))))
 
     -- a finish that gives
     gifts : All (drop 26 cases)

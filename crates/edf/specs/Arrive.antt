@@ -1,19 +1,18 @@
 -- An arrival keeps what makes every deadline met. Assumes nothing.
 use Prim.Native.Nat.{ℕ, suc, _+_, _-_, _≤_, _<_}
-use mathlib.Core.Path.{_≡_, sym, ap, _∙_}
+use mathlib.Core.Path.{_≡_, sym, _∙_}
 use mathlib.Core.Logic.{dite}
-use mathlib.Core.Bool.{true, false, not}
+use mathlib.Core.Bool.{true, false}
 use native.Mathlib.Nat.{le-of-eq, le-trans, mul-le-mul-left}
 use native.Mathlib.Omega.{arith}
 use native.Mathlib.Decide.{decLe, ℕ-discrete}
-use lib.Dec.{eqb}
-use borrow.Author.Tests.{ne-eqb}
-use Rattle.bounded.specs.Sum.{sum-eq, sum-le-at}
-use Rattle.bounded.specs.Tests.{gate, gate-on, both}
+use Rattle.bounded.specs.Sum.{sum-eq}
+use Rattle.bounded.specs.Besides.{sum-besides, sum-besides-le}
+use Rattle.bounded.specs.Tests.{both}
 use Rattle.bounded.specs.Quotient.{ceilDiv, ceil-more}
 use Rattle.edf.specs.Jobs.{jobsBy, jobs-mono, jobs-none, jobs-first, jobs-one, jobs-ceil, jobs-room}
 use Rattle.edf.specs.Demand.{TaskSet, Lawful, rowRequest, interference}
-use Rattle.edf.specs.State.{State, soonest, pending, toCome, rowLoad, load, WellFormed, WellFormedJob, Slack, SlackOn, Elapsed, pending-in, pending-idle, pending-later, pending-same, soonest-le, on-le}
+use Rattle.edf.specs.State.{State, soonest, pending, toCome, rowLoad, load, loadBesides, WellFormed, WellFormedJob, Slack, SlackOn, Elapsed, pending-in, pending-idle, pending-later, pending-same, soonest-le, on-le}
 use Rattle.edf.specs.Steps.{Arrive}
 
 module _ (τ : TaskSet) (ok : Lawful τ) (s : State) (formed : WellFormed τ s) where
@@ -59,6 +58,25 @@ module _ (τ : TaskSet) (ok : Lawful τ) (s : State) (formed : WellFormed τ s) 
         (λ w. dite (decLe (s .due j) (s .clock + x)) (λ p. load-waiting w p) (λ p. load-none (pending-later s (s .clock + x) j (omega arith))))
         (λ w. load-none (pending-idle s (s .clock + x) j w))
 
+  -- and so do all rows but k
+  pub besides-upto : (k x : ℕ) → 1 ≤ x → loadBesides τ s k (s .clock + x) ≤ interference τ k x
+  unfolding loadBesides interference
+  besides-upto k x some = sum-besides-le (rowLoad τ s (s .clock + x)) (rowRequest τ x) (τ .rows) k (λ j. row-upto x j some)
+
+  module _ (k : ℕ) (row : k < τ .rows) (ready : s .next k ≤ s .clock) where
+    -- by the deadline of a job of row k that arrives now, the row itself asks for that job
+    own-load : rowLoad τ s (s .clock + τ .D k) k ≡ τ .C k
+    unfolding toCome
+    own-load =
+        let r = ok k row in
+        let e : s .clock + τ .D k - soonest s k ≡ τ .D k = omega arith in
+        rw (pending-idle s (s .clock + τ .D k) k (ready-idle k row ready), e, jobs-one (τ .D k) (τ .T k) (omega arith) (omega arith)) (omega arith)
+
+    -- so the load is C and what the other rows ask for
+    pub load-arrived : load τ s (s .clock + τ .D k) ≡ loadBesides τ s k (s .clock + τ .D k) + τ .C k
+    unfolding load loadBesides
+    load-arrived = omega (arith, sum-besides (rowLoad τ s (s .clock + τ .D k)) (τ .rows) k row, own-load)
+
 module _ (τ : TaskSet) (ok : Lawful τ) (s s′ : State) (formed : WellFormed τ s) (k b : ℕ) (st : Arrive τ k b s s′) where
   -- no row's part of the load changes: where the new job is due by d, it waits now and is one less to come
   arrive-row : (d : ℕ) → rowLoad τ s′ d k ≡ rowLoad τ s d k
@@ -98,30 +116,9 @@ module _ (τ : TaskSet) (ok : Lawful τ) (s s′ : State) (formed : WellFormed �
       let g = formed i l (sym (e .waits) ∙ w) in
       record { some = omega arith; most = omega arith; deadline = omega arith; ahead = omega arith })
 
-  -- by the new deadline there is at most the new job to do, and what others can ask for until then
-  pub arrive-bound : load τ s (s .clock + τ .D k) ≤ τ .C k + interference τ k (τ .D k)
-  unfolding load interference toCome
-  arrive-bound =
-      let r = ok k (st .row) in
-      let idle = ready-idle τ ok s formed k (st .row) (st .ready) in
-      let e : s .clock + τ .D k - soonest s k ≡ τ .D k = omega arith in
-      let one : rowLoad τ s (s .clock + τ .D k) k ≡ τ .C k =
-      rw (pending-idle s (s .clock + τ .D k) k idle, e, jobs-one (τ .D k) (τ .T k) (omega arith) (omega arith)) (omega arith) in
-      omega (
-        arith,
-        one,
-        sum-le-at (rowLoad τ s (s .clock + τ .D k)) (λ j. gate (not (eqb j k)) (rowRequest τ (τ .D k) j)) (τ .rows) k (st .row)
-            (λ j l ne.
-            omega (
-              arith,
-              row-upto τ ok s formed (τ .D k) j (omega arith) l,
-              gate-on (not (eqb j k)) (rowRequest τ (τ .D k) j) (ap not (ne-eqb j k ne)),
-            )),
-      )
-
   -- a budget that the load leaves by the new deadline keeps the slack
-  pub arrive-slack-by : load τ s (s .clock + τ .D k) + b ≤ τ .D k → Slack τ s → Slack τ s′
-  arrive-slack-by h sl i l w =
+  pub arrive-slack : load τ s (s .clock + τ .D k) + b ≤ τ .D k → Slack τ s → Slack τ s′
+  arrive-slack h sl i l w =
       dite (ℕ-discrete i k)
       (λ e. rw (e, arrive-load (s′ .due k), st .due) (omega arith))
       (λ ne.

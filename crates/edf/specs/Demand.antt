@@ -1,15 +1,12 @@
 -- A table of rows, the work that its jobs ask for, and the facts by which it is judged. Assumes nothing.
 use Prim.Native.Nat.{ℕ, zero, suc, _+_, _-_, _*_, _≤_, _<_}
-use mathlib.Core.Path.{_≡_, refl, sym, ap}
-use mathlib.Core.Bool.{not}
+use mathlib.Core.Path.{_≡_, ap}
 use mathlib.Core.Logic.{dite, _⊎_, inl, inr, ⊎-elim}
 use native.Mathlib.Nat.{mul-le-mul-left, mul-le-mul-right, one-le-mul}
 use native.Mathlib.Omega.{arith}
 use native.Mathlib.Decide.{decLe, decLt, ℕ-discrete}
-use lib.Dec.{eqb}
-use borrow.Author.Tests.{eq-eqb, ne-eqb}
-use Rattle.bounded.specs.Tests.{gate, gate-on, gate-off}
-use Rattle.bounded.specs.Sum.{sumTo, sum-le, sum-lt, sum-add, sum-term, sum-zero, sum-eq-at}
+use Rattle.bounded.specs.Sum.{sumTo, sum-le, sum-lt, sum-add, sum-term, sum-zero}
+use Rattle.bounded.specs.Besides.{besides, sum-besides}
 use Rattle.bounded.specs.Quotient.{ceilDiv, ceil-mono, ceil-more, ceil-one}
 use Rattle.edf.specs.Jobs.{jobsBy, jobs-none, jobs-mono, jobs-rise, jobs-split}
 
@@ -53,7 +50,7 @@ request τ r = sumTo (rowRequest τ r) (τ .rows)
 -- the work of the rows other than k that arrives in a stretch of r: over these rows, C times (r / T, rounded up). The
 -- budget of row k is V = D - C - its interference in a stretch of D (§2.2; the worst-case inversion budget).
 unfoldable pub interference : TaskSet → ℕ → ℕ → ℕ
-interference τ k r = sumTo (λ j. gate (not (eqb j k)) (rowRequest τ r j)) (τ .rows)
+interference τ k r = sumTo (besides (rowRequest τ r) k) (τ .rows)
 
 -- the demand at t is at most t for every t (the processor demand criterion for the earliest deadline first)
 abbrev pub Feasible : TaskSet → Type 0
@@ -79,13 +76,7 @@ strong P step n = step n (below n)
 -- what others ask for is all that is asked for but the row's own part
 pub interference-at : (τ : TaskSet) (k r : ℕ) → k < τ .rows → request τ r ≡ interference τ k r + rowRequest τ r k
 unfolding interference request
-interference-at τ k r l =
-    omega (
-      arith,
-      sum-eq-at (rowRequest τ r) (λ j. gate (not (eqb j k)) (rowRequest τ r j)) (τ .rows) k l
-          (λ j u ne. sym (gate-on (not (eqb j k)) (rowRequest τ r j) (ap not (ne-eqb j k ne)))),
-      gate-off (not (eqb k k)) (rowRequest τ r k) (ap not (eq-eqb k k refl)),
-    )
+interference-at τ k r = sum-besides (rowRequest τ r) (τ .rows) k
 
 -- some row of the first n has D ≤ t; and none has
 abbrev SomeDue : TaskSet → ℕ → ℕ → Type 0

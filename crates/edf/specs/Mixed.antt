@@ -4,10 +4,10 @@ use mathlib.Core.Path.{_≡_}
 use mathlib.Core.Bool.{Bool, true, false}
 use native.Mathlib.Nat.{le-trans}
 use native.Mathlib.Omega.{arith}
-use Rattle.edf.specs.Demand.{TaskSet, Lawful, Feasible, interference}
+use Rattle.edf.specs.Demand.{TaskSet, Lawful, Feasible}
 use Rattle.edf.specs.State.{State, soonest, load, WellFormed, Slack, SlackOn, Head}
 use Rattle.edf.specs.Steps.{Arrive, Run, Idle, Finish, Start}
-use Rattle.edf.specs.Arrive.{arrive-bound, arrive-slack-by, arrive-on, arrive-soonest}
+use Rattle.edf.specs.Arrive.{arrive-slack, arrive-on, arrive-soonest}
 use Rattle.edf.specs.Advance.{run-slack, run-near, run-head, run-soonest, idle-slack, idle-all}
 use Rattle.edf.specs.Finish.{over-on, over-soonest, finish-slack, start-slack, start-all}
 
@@ -32,21 +32,17 @@ watched-le τ brittle s s′ le d v =
 module _ (τ : TaskSet) (ok : Lawful τ) (brittle : ℕ → Bool) (s s′ : State) where
   module _ (formed : WellFormed τ s) (k b : ℕ) (st : Arrive τ k b s s′) where
     -- a job arrives with a budget that the load leaves by its deadline
-    pub mixed-arrive-by : load τ s (s .clock + τ .D k) + b ≤ τ .D k → MixedSlack τ brittle s → MixedSlack τ brittle s′
-    mixed-arrive-by h mx = record {
-      slack = arrive-slack-by τ ok s s′ formed k b st h (mx .slack);
+    pub mixed-arrive : load τ s (s .clock + τ .D k) + b ≤ τ .D k → MixedSlack τ brittle s → MixedSlack τ brittle s′
+    mixed-arrive h mx = record {
+      slack = arrive-slack τ ok s s′ formed k b st h (mx .slack);
       watched = arrive-on τ ok s s′ formed k b st _ _ (watched-le τ brittle s s′ (arrive-soonest τ ok s s′ formed k b st)) (mx .watched);
     }
-
-    -- with a budget of at most V
-    pub mixed-arrive : b + τ .C k + interference τ k (τ .D k) ≤ τ .D k → MixedSlack τ brittle s → MixedSlack τ brittle s′
-    mixed-arrive h = mixed-arrive-by (omega (arith, arrive-bound τ ok s s′ formed k b st))
 
     -- a job of a brittle row arrives, with none
     pub mixed-arrive-brittle : brittle k ≡ true → b ≡ 0 → MixedSlack τ brittle s → MixedSlack τ brittle s′
     mixed-arrive-brittle f z mx =
         let v : Watched τ brittle s (s .clock + τ .D k) = record { row = k; known = st .row; marked = f; by = omega arith } in
-        mixed-arrive-by (omega (arith, mx .watched (s .clock + τ .D k) v (omega arith))) mx
+        mixed-arrive (omega (arith, mx .watched (s .clock + τ .D k) v (omega arith))) mx
 
   module _ (k m : ℕ) (st : Run τ k m s s′) where
     earlier : (d : ℕ) → Watched τ brittle s′ d → Watched τ brittle s d

@@ -6,8 +6,8 @@ use mathlib.Core.Bool.{Bool, true, false, true≢false}
 use mathlib.Core.Logic.{_⊎_, inl, inr}
 use native.Mathlib.Omega.{arith}
 use Rattle.bounded.specs.Tests.{both}
-use Rattle.edf.specs.Demand.{TaskSet, Lawful, Feasible, interference}
-use Rattle.edf.specs.State.{State, soonest, WellFormed, Elapsed, Head}
+use Rattle.edf.specs.Demand.{TaskSet, Lawful, Feasible}
+use Rattle.edf.specs.State.{State, soonest, load, WellFormed, Elapsed, Head}
 use Rattle.edf.specs.Steps.{Arrive, Run, Idle, Finish, Start}
 use Rattle.edf.specs.Arrive.{arrive-formed, arrive-elapsed}
 use Rattle.edf.specs.Advance.{run-formed, run-elapsed, idle-formed, idle-slack, idle-elapsed}
@@ -31,11 +31,11 @@ MayRun τ brittle s k = Head τ s k ⊎ Near τ brittle s k
 abbrev pub MayIdle : TaskSet → (ℕ → Bool) → State → Type 0
 MayIdle τ brittle s = ((i : ℕ) → i < τ .rows → s .waits i ≡ false) ⊎ ((i : ℕ) → i < τ .rows → brittle i ≡ false)
 
--- a job arrives with a budget of at most V, one of a brittle row with none; a job runs, or none, as the two above say and as
--- long as the budgets allow; and a job that is over early may give what it leaves unused to later ones
+-- a job arrives with a budget that the load leaves by its deadline, one of a brittle row with none; a job runs, or none, as the
+-- two above say and as long as the budgets allow; and a job that is over early may give what it leaves unused to later ones
 pub data Step (τ : TaskSet) (brittle : ℕ → Bool) (s s′ : State) : Type 0 where
   arrived : (k b : ℕ) → Arrive τ k b s s′ → (brittle k ≡ true → b ≡ 0)
-      → (brittle k ≡ false → b + τ .C k + interference τ k (τ .D k) ≤ τ .D k) → Step τ brittle s s′
+      → (brittle k ≡ false → load τ s (s .clock + τ .D k) + b ≤ τ .D k) → Step τ brittle s s′
   ran : (k m : ℕ) → Run τ k m s s′ → MayRun τ brittle s k → Step τ brittle s s′
   idled : (m : ℕ) → Idle τ m s s′ → MayIdle τ brittle s → Step τ brittle s s′
   finished : (k : ℕ) → Finish τ k s s′ → Step τ brittle s s′
@@ -46,7 +46,7 @@ safe-start τ ok fe brittle s st =
 
 module _ (τ : TaskSet) (ok : Lawful τ) (fe : Feasible τ) (brittle : ℕ → Bool) (s s′ : State) (v : Safe τ brittle s) where
   arrive-mixed : (k b : ℕ) → Arrive τ k b s s′ → (brittle k ≡ true → b ≡ 0)
-      → (brittle k ≡ false → b + τ .C k + interference τ k (τ .D k) ≤ τ .D k) → MixedSlack τ brittle s′
+      → (brittle k ≡ false → load τ s (s .clock + τ .D k) + b ≤ τ .D k) → MixedSlack τ brittle s′
   arrive-mixed k b st none most =
       both (brittle k) (λ e. mixed-arrive-brittle τ ok brittle s s′ (v .formed) k b st e (none e) (v .slack))
       (λ e. mixed-arrive τ ok brittle s s′ (v .formed) k b st (most e) (v .slack))

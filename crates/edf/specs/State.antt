@@ -9,6 +9,7 @@ use native.Mathlib.Decide.{ℕ-discrete}
 use lib.Dec.{leb}
 use borrow.Author.Tests.{le-leb, lt-leb}
 use Rattle.bounded.specs.Sum.{sumTo, sum-le, sum-term, sum-le-at}
+use Rattle.bounded.specs.Besides.{besides}
 use Rattle.bounded.specs.Tests.{gate, gate-on, gate-off, gate-le, both}
 use Rattle.edf.specs.Jobs.{jobsBy, jobs-mono}
 use Rattle.edf.specs.Demand.{TaskSet, Lawful, rowDemand, demand, Feasible}
@@ -45,6 +46,10 @@ rowLoad τ s d i = pending s d i + τ .C i * toCome τ s d i
 -- the load: the work of all rows that can still have to be done by d
 unfoldable pub load : TaskSet → State → ℕ → ℕ
 load τ s d = sumTo (rowLoad τ s d) (τ .rows)
+
+-- and of all rows but k
+unfoldable pub loadBesides : TaskSet → State → ℕ → ℕ → ℕ
+loadBesides τ s k d = sumTo (besides (rowLoad τ s d) k) (τ .rows)
 
 -- a waiting job: 1 ≤ remaining ≤ C, its deadline is the earliest next arrival - T + D, and lies ahead of the clock
 pub record WellFormedJob (τ : TaskSet) (s : State) (i : ℕ) : Type 0 where

@@ -6,14 +6,15 @@ use lib.Dec.{ltb}
 use lib.ListN.{length-set}
 use borrow.Author.Tests.{lt-ltb}
 use Rattle.edf.specs.Steps.{Arrive}
+use Rattle.edf.specs.Arrive.{load-arrived}
 use Rattle.edf.specs.Safe.{Step}
+use Rattle.table.specs.Rows.{fit-lawful}
 use Rattle.session.specs.declared.Job.{Job}
 use Rattle.session.specs.declared.Session.{Session}
-use Rattle.session.specs.Reading.{jobAt, rowsOf, tasks, waits, startBudget, stateOf}
-use Rattle.session.specs.Calls.{arrivedJob}
-use Rattle.session.specs.Arrive.{start-brittle, withArrived, arrived-at, arrived-other, arrived-sound}
+use Rattle.session.specs.Reading.{jobAt, rowsOf, tasks, waits, stateOf}
+use Rattle.session.specs.Calls.{newBudget, arrivedJob}
+use Rattle.session.specs.Arrive.{new-brittle, new-whole, withArrived, arrived-at, arrived-other, arrived-sound}
 use Rattle.guarantee.specs.Good.{Good, good-places}
-use Rattle.guarantee.specs.KeepsTable.{start-firm}
 use Rattle.guarantee.specs.KeepsStep.{job-same, good-facts, good-step}
 
 module _ (s : Session) (g : Good (rowsOf s) s) (k : ℕ) (row : k < s .count) (ready : jobAt s k .next ≤ s .clock) where
@@ -26,7 +27,7 @@ module _ (s : Session) (g : Good (rowsOf s) s) (k : ℕ) (row : k < s .count) (r
   is : jobAt after k ≡ arrivedJob s k
   is = arrived-at s k (omega (arith, good-places g))
 
-  arrive-step : Arrive (tasks s) k (startBudget (tasks s) k) (stateOf s) (stateOf after)
+  arrive-step : Arrive (tasks s) k (newBudget s k) (stateOf s) (stateOf after)
   unfolding waits
   arrive-step = record {
     row = known;
@@ -51,6 +52,12 @@ module _ (s : Session) (g : Good (rowsOf s) s) (k : ℕ) (row : k < s .count) (r
     places = length-set (s .jobs) k (arrivedJob s k) ∙ g .places;
     sound = arrived-sound s k (good-places g) (sym (g .count)) (good-facts s g) row;
     safe = good-step s g (stateOf after)
-        (Step.arrived k (startBudget (tasks s) k) arrive-step (start-brittle (tasks s) k) (start-firm (tasks s) k));
+        (Step.arrived k (newBudget s k) arrive-step (new-brittle s k)
+        (λ e.
+        omega (
+          arith,
+          load-arrived (tasks s) (fit-lawful (tasks s) (g .fit)) (stateOf s) (g .safe .formed) k known ready,
+          new-whole s k (good-facts s g) known (sym (g .count)) e,
+        )));
     apt = λ n. absurd (omega arith);
   }

@@ -26,3 +26,4 @@ pub mod Uniform
 pub mod Tight
 pub mod Mixed
 pub mod Arrived
+pub mod Budget

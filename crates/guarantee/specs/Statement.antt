@@ -1,7 +1,7 @@
 -- What is guaranteed over every list of calls (docs/SPECIFICATION.md §6.2), of a start and of the record of a refused table (§5.1), of the
--- order of jobs and of a choice in a tight session (§5.4), of what a finish gives (§5.6), and of a batch of arrivals (§5.9).
+-- budget that a job arrives with (§5.3), of the order of jobs and of a choice in a tight session (§5.4), of what a finish gives (§5.6), and of a batch of arrivals (§5.9).
 -- Definitions only. Assumes nothing.
-use Prim.Native.Nat.{ℕ, _+_, _-_, _≤_, _<_}
+use Prim.Native.Nat.{ℕ, _+_, _-_, _*_, max, _≤_, _<_}
 use mathlib.Core.Path.{_≡_}
 use mathlib.Core.Bool.{true, false}
 use mathlib.Core.List.{List, [], _∷_, _++_, map}
@@ -10,8 +10,9 @@ use lib.Dec.{ltb, eqb}
 use lib.IntN.{ℤ, pos}
 use lib.ListN.{length}
 use Rattle.edf.specs.Demand.{TaskSet}
+use Rattle.edf.specs.State.{toCome}
 use Rattle.table.specs.Rows.{tasksOf}
-use Rattle.table.specs.Budgets.{brittle}
+use Rattle.table.specs.Budgets.{budgetOf, brittle}
 use Rattle.table.specs.declared.Judgement.{Judgement}
 use Rattle.table.specs.Verdict.{opinionOf}
 use Rattle.table.specs.Opinion.{shownOf}
@@ -21,11 +22,11 @@ use Rattle.session.specs.declared.Answer.{Answer}
 use Rattle.session.specs.declared.Arrival.{Arrival}
 use Rattle.session.specs.declared.Outcome.{Outcome}
 use Rattle.session.specs.declared.start.Started.{Started}
-use Rattle.session.specs.Reading.{idle, jobAt, tasks, waits}
+use Rattle.session.specs.Reading.{idle, jobAt, tasks, waits, natural, stateOf}
 use Rattle.session.specs.Sound.{sound}
 use Rattle.session.specs.Order.{arrivalOf, cameBefore, headOf, nextDue, brittleDue, near, candidate, idles, candidates}
 use Rattle.session.specs.Choose.{pickOf, spanOf, pickUsed, usedOf}
-use Rattle.session.specs.Calls.{shown, three, gains, arriveOf, chooseOf, advanceOf, finishOf}
+use Rattle.session.specs.Calls.{shown, three, arrivalBudget, gains, arriveOf, chooseOf, advanceOf, finishOf}
 use Rattle.session.specs.Batch.{answered, afterAll, answeredAll}
 use Rattle.session.specs.Start.{freshOf, startOf, sessionOf, Starts}
 use Rattle.guarantee.specs.Ledger.{Call, arrive, choose, advance, finish, Event, End, none, at, Entry, Ledger, ledgerOf}
@@ -179,6 +180,34 @@ ArrivalsTold =
     (l : List ℕ) → opinionOf l .number ≡ 0
     → (s₀ : Session) (calls : List HostCall) (i : ℕ) → i < tasksOf l .rows → waits (sessionFrom s₀ l calls) i ≡ true
     → Arrived i (arrivalOf (sessionFrom s₀ l calls) i) (ledgerOf (tasksOf l) (eventsOf (startOf s₀ l) calls) .entries)
+
+-- THE BUDGET OF A NEW JOB IS NOT CUT: in every sound record, also one that no list of calls leads to, where a job of a row that
+-- is not brittle arrives, its budget is D − C less what the other rows can ask for by its deadline. So this is never negative.
+abbrev pub BudgetWhole : Type 0
+BudgetWhole =
+    (s : Session) → sound s ≡ true → length (s .jobs) ≡ 16 → length (s .words) ≡ 48
+    → (row : ℕ) → brittle (tasks s) row ≡ false → shown (arriveOf s row .answer) .number ≡ 0
+    → pos (jobAt (arriveOf s row .session) row .budget) ≡ arrivalBudget s row
+
+-- A NEW JOB'S BUDGET IS NEVER BELOW V: from a start of every admitted table, after every list of calls, where a job of any row
+-- arrives. (A V that is negative counts as 0. For a batch see `OneByOne`.)
+abbrev pub NeverBelowV : Type 0
+NeverBelowV =
+    (l : List ℕ) → opinionOf l .number ≡ 0
+    → (s₀ : Session) (calls : List HostCall) (row : ℕ) → shown (arriveOf (sessionFrom s₀ l calls) row .answer) .number ≡ 0
+    → natural (budgetOf (tasksOf l) row) ≤ jobAt (arriveOf (sessionFrom s₀ l calls) row .session) row .budget
+
+-- the deadline of a job of row j that is still to come, the m-th from 0: the first arrives at the later of clock and earliest next
+-- arrival, the others T apart
+abbrev pub dueToCome : Session → ℕ → ℕ → ℕ
+dueToCome s j m = max (s .clock) (jobAt s j .next) + m * tasks s .T j + tasks s .D j
+
+-- EACH DEADLINE COUNTS ONCE: in every sound record, of the jobs of row j still to come, as many count against a deadline d as are
+-- due no later than d: the m-th is, exactly if m is below that number
+abbrev pub DeadlinesCounted : Type 0
+DeadlinesCounted =
+    (s : Session) → sound s ≡ true → (d j : ℕ) → j < tasks s .rows
+    → (m : ℕ) → (m < toCome (tasks s) (stateOf s) d j → dueToCome s j m ≤ d) × (dueToCome s j m ≤ d → m < toCome (tasks s) (stateOf s) d j)
 
 -- row i's job gains all of the ticks that the answer a of a finish reports as unused, which leads from s to s′: the cap,
 -- D − C, does not cut

@@ -1,54 +1,75 @@
 -- An arrival leaves a sound session sound (docs/SPECIFICATION.md §5.3), also one that no list of calls leads to. Assumes nothing.
 use Prim.Native.Nat.{ℕ, _+_, _-_, _≤_, _<_}
 use mathlib.Core.Path.{_≡_, refl, sym, ap, _∙_}
-use mathlib.Core.Bool.{true, false≢true}
+use mathlib.Core.Bool.{Bool, true, false}
+use mathlib.Core.List.{List}
 use mathlib.Core.Logic.{dite, inl}
 use native.Mathlib.Omega.{arith}
 use native.Mathlib.Decide.{ℕ-discrete}
 use lib.Dec.{leb, ltb}
-use lib.IntN.{ℤ, pos, negsuc, subℕ}
 use lib.ListN.{length, set}
 use lib.Seq.{getD-set-same, getD-set-other}
-use borrow.Author.Tests.{leb-false}
+use borrow.Author.Tests.{leb-false, ltb-true}
 use Rattle.bounded.specs.Tests.{both}
-use Rattle.bounded.specs.Signed.{negative, difference-sub}
-use Rattle.edf.specs.Demand.{TaskSet, interference}
-use Rattle.table.specs.Budgets.{budgetOf, brittle}
+use Rattle.bounded.specs.Signed.{difference, difference-sub}
+use Rattle.edf.specs.Demand.{interference}
+use Rattle.edf.specs.State.{loadBesides}
+use Rattle.edf.specs.Arrive.{besides-upto}
+use Rattle.table.specs.Rows.{fit-lawful}
+use Rattle.table.specs.Budgets.{budgetOf, brittle, firm-row, brittle-row}
 use Rattle.session.specs.declared.Job.{Job}
 use Rattle.session.specs.declared.Session.{Session}
-use Rattle.session.specs.Reading.{noJob, jobAt, rowsOf, tasks, waits, natural, startBudget, mostBudget}
+use Rattle.session.specs.Reading.{noJob, jobAt, rowsOf, tasks, waits, natural, mostBudget, stateOf}
 use Rattle.session.specs.Sound.{sound}
-use Rattle.session.specs.Calls.{changed, arrivedJob, arriveIn, arriveOf}
-use Rattle.session.specs.Facts.{Waiting, Facts, facts-of, sound-of, facts-fit}
-use Rattle.session.specs.Brittle.{rows-count}
+use Rattle.session.specs.Calls.{changed, arrivalBudget, newBudget, arrivedJob, arriveIn, arriveOf}
+use Rattle.session.specs.Facts.{Waiting, Facts, facts-of, sound-of, facts-fit, facts-formed}
+use Rattle.session.specs.Brittle.{rows-count, Marks}
 
-natural-le : (a b : ℕ) → natural (subℕ a b) ≤ a - b
-natural-le a b = both (ltb a b) (λ e. simp e (omega arith)) (λ e. simp e (omega arith))
+-- ---- the budget that a job arrives with
 
-pub natural-none : (v : ℤ) → negative v ≡ true → natural v ≡ 0
-natural-none (pos n) e = absurd (false≢true e)
-natural-none (negsuc n) e = refl
+-- a difference, cut at 0
+pub natural-difference : (a b c : ℕ) → natural (difference a b c) ≡ a - (b + c)
+natural-difference a b c =
+    ap natural (difference-sub a b c) ∙ both (ltb a (b + c)) (λ e. simp e (omega (arith, ltb-true a (b + c) e))) (λ e. simp e)
 
--- a brittle row's starting budget is 0
-pub start-brittle : (τ : TaskSet) (i : ℕ) → brittle τ i ≡ true → startBudget τ i ≡ 0
-unfolding brittle startBudget
-start-brittle τ i = natural-none (budgetOf τ i)
+module _ (s : Session) (row : ℕ) where
+  -- the work that other rows may have to do by the deadline of a job that arrives now
+  abbrev pub asked : ℕ
+  asked = loadBesides (tasks s) (stateOf s) row (s .clock + tasks s .D row)
 
--- V is at most D − C
-start-le : (τ : TaskSet) (i : ℕ) → startBudget τ i ≤ τ .D i - τ .C i
-unfolding startBudget budgetOf
-start-le τ i =
-    omega (
-      arith,
-      natural-le (τ .D i) (τ .C i + interference τ i (τ .D i)),
-      ap natural (difference-sub (τ .D i) (τ .C i) (interference τ i (τ .D i))),
-    )
+  pub new-brittle : brittle (tasks s) row ≡ true → newBudget s row ≡ 0
+  unfolding newBudget
+  new-brittle e = simp e
 
--- so a job arrives with no more than the most budget
-start-most : (τ : TaskSet) (i : ℕ) → startBudget τ i ≤ mostBudget τ i
-unfolding mostBudget
-start-most τ i =
-    both (brittle τ i) (λ e. simp e (omega (arith, start-brittle τ i e))) (λ e. simp e (start-le τ i))
+  pub new-firm : brittle (tasks s) row ≡ false → newBudget s row ≡ tasks s .D row - (tasks s .C row + asked)
+  unfolding newBudget arrivalBudget
+  new-firm e = simp e (natural-difference (tasks s .D row) (tasks s .C row) asked)
+
+  -- it is no more than the most budget
+  new-most : newBudget s row ≤ mostBudget (tasks s) row
+  unfolding mostBudget
+  new-most =
+      both (brittle (tasks s) row) (λ e. simp e (omega (arith, new-brittle e))) (λ e. simp e (omega (arith, new-firm e)))
+
+  module _ (f : Facts s) (known : row < tasks s .rows) (rows : tasks s .rows ≡ s .count) where
+    -- in a sound session the other rows ask for no more than V leaves them,
+    asked-upto : asked ≤ interference (tasks s) row (tasks s .D row)
+    asked-upto =
+        let r = facts-fit s f .row row known in
+        besides-upto (tasks s) (fit-lawful (tasks s) (facts-fit s f)) (stateOf s) (facts-formed s f rows) row (tasks s .D row) (omega arith)
+
+    -- so where the row is not brittle, the difference is not cut,
+    pub new-whole : brittle (tasks s) row ≡ false → newBudget s row + tasks s .C row + asked ≡ tasks s .D row
+    new-whole e = omega (arith, new-firm e, asked-upto, firm-row (tasks s) row e)
+
+    -- and it is never below V
+    pub new-from : natural (budgetOf (tasks s) row) ≤ newBudget s row
+    unfolding budgetOf
+    new-from =
+        let v = natural-difference (tasks s .D row) (tasks s .C row) (interference (tasks s) row (tasks s .D row)) in
+        both (brittle (tasks s) row) (λ e. omega (arith, v, brittle-row (tasks s) row e)) (λ e. omega (arith, v, new-firm e, asked-upto))
+
+-- ---- the session after it
 
 pub waits-same : (s s′ : Session) (i : ℕ) → jobAt s′ i ≡ jobAt s i → waits s′ i ≡ waits s i
 unfolding waits
@@ -78,7 +99,7 @@ module _ (s : Session) (k : ℕ) where
           most = omega (arith, ap (λ (j : Job). j .left) is);
           deadline = omega (arith, ap (λ (j : Job). j .due) is, ap (λ (j : Job). j .next) is);
           notLate = omega (arith, ap (λ (j : Job). j .due) is, r .cost, r .fits);
-          budget = omega (arith, ap (λ (j : Job). j .budget) is, start-most (tasks s) k);
+          budget = omega (arith, ap (λ (j : Job). j .budget) is, new-most s k);
         }
 
     waiting-old : (i : ℕ) → ¬ (i ≡ k) → i < s .count → waits withArrived i ≡ true → Waiting withArrived i
@@ -130,3 +151,11 @@ arrive-rows s row =
     (λ e. both (leb (s .count) row) (λ a. simp (e, a))
     (λ a. both (ltb (s .clock) (jobAt s row .next)) (λ b. simp (e, a, b)) (λ b. simp (e, a, b))))
     (λ e. simp e)
+
+pub arrive-marks : (s : Session) (row : ℕ) (m : List Bool) → Marks s m → Marks (arriveOf s row .session) m
+unfolding arriveOf arriveIn rowsOf
+arrive-marks s row m h =
+    both (sound s)
+    (λ e. both (leb (s .count) row) (λ a. simp (e, a) h)
+    (λ a. both (ltb (s .clock) (jobAt s row .next)) (λ b. simp (e, a, b) h) (λ b. simp (e, a, b) (record { at = h .at }))))
+    (λ e. simp e h)

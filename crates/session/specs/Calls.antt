@@ -4,9 +4,11 @@ use mathlib.Core.Path.{_≡_}
 use mathlib.Core.Bool.{Bool, not, _&&_, _||_, cond}
 use mathlib.Core.List.{List}
 use lib.Dec.{leb, ltb, eqb}
+use lib.IntN.{ℤ, pos, _-ℤ_}
 use lib.ListN.{set}
 use Rattle.bounded.specs.Fold.{foldTo}
 use Rattle.edf.specs.Demand.{TaskSet}
+use Rattle.edf.specs.State.{loadBesides}
 use Rattle.table.specs.Budgets.{brittle}
 use Rattle.session.specs.declared.Job.{Job}
 use Rattle.session.specs.declared.Session.{Session}
@@ -14,7 +16,7 @@ use Rattle.session.specs.declared.Numbers.{Numbers}
 use Rattle.session.specs.declared.Answer.{Answer}
 use Rattle.session.specs.declared.Answer.the-variants.{Arrived, Chosen, Advanced, Finished, Unsound, NoRow, TooEarly, InForce, NoChoice, BadStep, Idling, ClockEnd}
 use Rattle.session.specs.declared.Outcome.{Outcome}
-use Rattle.session.specs.Reading.{idle, clockEnd, jobAt, tasks, waits, ahead, startBudget}
+use Rattle.session.specs.Reading.{idle, clockEnd, jobAt, tasks, waits, ahead, natural, stateOf}
 use Rattle.session.specs.Sound.{sound}
 use Rattle.session.specs.Choose.{pickOf, pickUsed, spanOf, usedOf}
 
@@ -79,19 +81,36 @@ withBudget j b = record { next = j .next; due = j .due; left = j .left; budget =
 
 -- ---- arrive
 
--- earliest next arrival clock + T; the job waits with deadline clock + D, remaining C, and the starting budget
-abbrev pub arrivedBy : TaskSet → ℕ → ℕ → Job
-arrivedBy τ row clock = record { next = clock + τ .T row; due = clock + τ .D row; left = τ .C row; budget = startBudget τ row }
+-- what a job of the row, arriving now, can spare, over the integers: D − C, less, of every other row, the remaining ticks of its
+-- waiting job, if that is due no later than the new one (`pending`), and its C for each deadline no later than the new one that
+-- its jobs still to come could have, the first of them arriving at the later of clock and earliest next arrival, the others T
+-- apart (`toCome`)
+unfoldable pub arrivalBudget : Session → ℕ → ℤ
+arrivalBudget s row =
+    pos (tasks s .D row) -ℤ pos (tasks s .C row)
+    -ℤ pos (loadBesides (tasks s) (stateOf s) row (s .clock + tasks s .D row))
+
+-- a new job's budget: that, and 0 where the row is brittle. In a sound session it is never negative (`BudgetWhole`).
+unfoldable pub newBudget : Session → ℕ → ℕ
+newBudget s row = cond (brittle (tasks s) row) 0 (natural (arrivalBudget s row))
+
+-- earliest next arrival clock + T; the job waits with deadline clock + D, remaining C, and the budget b
+abbrev pub arrivedBy : TaskSet → ℕ → ℕ → ℕ → Job
+arrivedBy τ row clock b = record { next = clock + τ .T row; due = clock + τ .D row; left = τ .C row; budget = b }
 
 abbrev pub arrivedJob : Session → ℕ → Job
-arrivedJob s row = arrivedBy (tasks s) row (s .clock)
+arrivedJob s row = arrivedBy (tasks s) row (s .clock) (newBudget s row)
 
--- a choice in force is dropped
+-- the job waits, and a choice in force is dropped
+abbrev pub arrivedOf : Session → ℕ → Outcome
+arrivedOf s row =
+    accepted (changed s (s .clock) (set (s .jobs) row (arrivedJob s row)) 0 0) (Arrived row (s .clock + tasks s .D row))
+
 unfoldable pub arriveIn : Session → ℕ → Outcome
 arriveIn s row =
     cond (leb (s .count) row) (refused s (NoRow row))
     (cond (ltb (s .clock) (jobAt s row .next)) (refused s (TooEarly row (jobAt s row .next)))
-    (accepted (changed s (s .clock) (set (s .jobs) row (arrivedJob s row)) 0 0) (Arrived row (s .clock + tasks s .D row))))
+    (arrivedOf s row))
 
 -- ---- choose
 

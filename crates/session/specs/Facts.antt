@@ -10,11 +10,12 @@ use lib.ListN.{List·getD-eq-default}
 use borrow.Author.Tests.{leb-true, ltb-true, eqb-true, eqb-false, le-leb, lt-ltb, eq-eqb}
 use Rattle.bounded.specs.Tests.{both, and-true, and-both, so-then, then-so, or-true}
 use Rattle.bounded.specs.All.{allTo, all-at, all-of}
+use Rattle.edf.specs.State.{WellFormed}
 use Rattle.table.specs.Rows.{horizon, tasksOf, Fit}
 use Rattle.table.specs.Verdict.{opinionOf}
 use Rattle.table.specs.Theorems.{opinion-fit}
 use Rattle.session.specs.declared.Session.{Session}
-use Rattle.session.specs.Reading.{idle, clockEnd, jobAt, rowsOf, tasks, waits, ahead, mostBudget}
+use Rattle.session.specs.Reading.{idle, clockEnd, jobAt, rowsOf, tasks, waits, ahead, mostBudget, stateOf}
 use Rattle.session.specs.Sound.{soundRows, soundWaiting, soundJob, runs, affords, soundChoice, sound}
 
 -- the job of row i, where one waits
@@ -154,6 +155,12 @@ sound-of s f =
 -- its rows keep their rule
 pub facts-fit : (s : Session) → Facts s → Fit (tasks s)
 facts-fit s f = opinion-fit (rowsOf s) (f .admitted)
+
+-- its waiting jobs are as the theory has them
+pub facts-formed : (s : Session) → Facts s → tasks s .rows ≡ s .count → WellFormed (tasks s) (stateOf s)
+facts-formed s f rows i l w =
+    let j = f .job i (omega arith) w in
+    record { some = j .some; most = j .most; deadline = j .deadline; ahead = j .notLate }
 
 -- past the table's rows D is read as 0
 past-deadline : (s : Session) (i : ℕ) → tasks s .rows ≤ i → tasks s .D i ≡ 0

@@ -8,7 +8,7 @@ use lib.ListN.{getD, take}
 use Rattle.edf.specs.Demand.{TaskSet}
 use Rattle.edf.specs.State.{State}
 use Rattle.table.specs.Rows.{tasksOf}
-use Rattle.table.specs.Budgets.{budgetOf, brittle}
+use Rattle.table.specs.Budgets.{brittle}
 use Rattle.session.specs.declared.Job.{Job}
 use Rattle.session.specs.declared.Session.{Session}
 
@@ -49,10 +49,6 @@ ahead s c j = waits s j && (eqb c idle || ltb (jobAt s j .due) (jobAt s c .due))
 abbrev pub natural : ℤ → ℕ
 natural (pos n) = n
 natural (negsuc n) = 0
-
--- a row's starting budget: V, and 0 where the row is brittle
-unfoldable pub startBudget : TaskSet → ℕ → ℕ
-startBudget τ i = natural (budgetOf τ i)
 
 -- the most budget that a waiting job may have: D − C, and 0 where the row is brittle
 unfoldable pub mostBudget : TaskSet → ℕ → ℕ

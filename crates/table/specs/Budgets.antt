@@ -5,15 +5,13 @@ use mathlib.Core.Bool.{Bool, true, false, not, _&&_, _||_}
 use mathlib.Core.List.{List}
 use native.Mathlib.Omega.{arith}
 use native.Mathlib.Numerals.{add-one}
-use lib.Dec.{eqb}
 use lib.IntN.{ℤ, pos, _-ℤ_}
 use lib.ListN.{getD, set, replicate, length-replicate}
-use borrow.Author.Tests.{eq-eqb, ne-eqb, ltb-false, not-true}
-use Rattle.bounded.specs.Tests.{gate, gate-on, gate-off}
+use borrow.Author.Tests.{ltb-true, ltb-false, not-true}
 use Rattle.bounded.specs.Fold.{foldTo, put-at}
 use Rattle.bounded.specs.All.{allTo, all-at}
 use Rattle.bounded.specs.Signed.{difference, negative, difference-negative}
-use Rattle.edf.specs.Demand.{TaskSet, rowRequest, interference}
+use Rattle.edf.specs.Demand.{TaskSet, interference}
 use Rattle.table.specs.declared.rows.Task.{Task}
 use Rattle.table.specs.declared.budgets.Budgets.{Budgets}
 use Rattle.table.specs.Rows.{Fit, FitRow}
@@ -62,20 +60,6 @@ marksOf τ = marksTo τ (τ .rows)
 
 unfoldable pub budgetsOf : TaskSet → Budgets
 budgetsOf τ = record { values = valuesOf τ; brittle = marksOf τ; loose = loose τ; firm = firm τ }
-
--- what row j can take of row i in a stretch x
-abbrev pub chargeOf : TaskSet → ℕ → ℕ → ℕ → ℕ
-chargeOf τ i x j = gate (not (eqb j i)) (rowRequest τ x j)
-
-pub charge-own : (τ : TaskSet) (i x j : ℕ) → j ≡ i → Within 1000000000000 (chargeOf τ i x j) 0
-charge-own τ i x j e =
-    record { is = sym (gate-off (not (eqb j i)) (rowRequest τ x j) (ap not (eq-eqb j i e))); small = omega arith }
-
-pub charge-other : (τ : TaskSet) (i x j r : ℕ) → (j ≡ i → ⊥) → Within 1000000000000 (rowRequest τ x j) r → Within 1000000000000 (chargeOf τ i x j) r
-charge-other τ i x j r ne w =
-    record { is = w .is ∙ sym (gate-on (not (eqb j i)) (rowRequest τ x j) (ap not (ne-eqb j i ne))); small = w .small }
-
-pub ruleset charge-cases = (charge-own, charge-other)
 
 -- w is what the machine reads back of the signed number v
 pub budget-is : (τ : TaskSet) (i s : ℕ) (k : Task) (v w : ℤ) → FitRow τ i k → Within 16000000000000 (interference τ i (k .deadline)) s → w ≡ v → v ≡ difference (k .deadline) (k .run) s → w ≡ budgetOf τ i
@@ -147,6 +131,11 @@ marks-at τ i fit l = put-at (brittle τ) (replicate 16 false) (τ .rows) false 
 pub firm-row : (τ : TaskSet) (i : ℕ) → brittle τ i ≡ false → τ .C i + interference τ i (τ .D i) ≤ τ .D i
 unfolding brittle budgetOf
 firm-row τ i e = ltb-false (τ .D i) _ (sym (difference-negative (τ .D i) (τ .C i) (interference τ i (τ .D i))) ∙ e)
+
+-- and that of a brittle one has not
+pub brittle-row : (τ : TaskSet) (i : ℕ) → brittle τ i ≡ true → τ .D i < τ .C i + interference τ i (τ .D i)
+unfolding brittle budgetOf
+brittle-row τ i e = ltb-true (τ .D i) _ (sym (difference-negative (τ .D i) (τ .C i) (interference τ i (τ .D i))) ∙ e)
 
 -- no row of a loose table is brittle
 pub loose-firm : (τ : TaskSet) → loose τ ≡ true → (i : ℕ) → i < τ .rows → brittle τ i ≡ false

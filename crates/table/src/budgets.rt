@@ -4,11 +4,12 @@ ghost use mathlib.Core.Bool.{not, _&&_, _||_};
 ghost use Prim.Native.Nat.{_+_, _<_, _≤_, _^_};
 ghost use lib.IntN.{natAbs};
 ghost use Rattle.bounded.specs.Signed.{difference, negative};
-ghost use Rattle.edf.specs.Demand.{interference};
+ghost use Rattle.bounded.specs.Besides.{besides};
+ghost use Rattle.edf.specs.Demand.{rowRequest, interference};
 ghost use Rattle.table.specs.Rows.{tasksOf, Fit};
 ghost use Rattle.bounded.specs.Within.{Within};
 ghost use Rattle.table.specs.Inverse.{Inverses};
-ghost use Rattle.table.specs.Budgets.{chargeOf, budgetOf, budgetsOf};
+ghost use Rattle.table.specs.Budgets.{budgetOf, budgetsOf};
 use super::request::row_request;
 use super::rows::count;
 use super::rows::fit_row;
@@ -24,7 +25,7 @@ pub struct Budgets {
 // What row j can take of row i in a stretch x: nothing where it is row i itself.
 fn charge(words: &[u32], inverses: &[u64; 16], i: usize, j: usize, x: u64) -> u64
     requires { ⌜ Fit (tasksOf (now words)) × Inverses (tasksOf (now words)) (now inverses) × (j < tasksOf (now words) .rows) × (x ≤ 1000000) ⌝ }
-    ensures { λ r. ⌜ Within 1000000000000 (chargeOf (tasksOf (now (words .entry))) i x j) r ⌝ }
+    ensures { λ r. ⌜ Within 1000000000000 (besides (rowRequest (tasksOf (now (words .entry))) x) i j) r ⌝ }
 {
     if j == i {
         return 0;

@@ -54,6 +54,21 @@ pub fn prepare(words: &[u32], inverses: &[u64; 16], i: usize) -> Prepared
     }
 }
 
+// The same without the other rows' inverses, at the cost of a division. Internal: for callers who have a sound session.
+pub fn prepare_alone(words: &[u32], i: usize) -> Prepared
+    requires { ⌜ Fit (tasksOf (now words)) × (i < tasksOf (now words) .rows) ⌝ }
+    ensures { λ r. ⌜ Ready (tasksOf (now (words .entry))) i r ⌝ }
+{
+    let k = fit_row(words, i);
+    let inverse = inverse_of(k.period);
+    Prepared {
+        run: k.run,
+        period: k.period,
+        deadline: k.deadline,
+        inverse,
+    }
+}
+
 // x / period, rounded down. Internal: its callers have the period from a row that keeps its rule.
 pub fn quotient(x: u64, period: u64, inverse: u64) -> u64
     requires { ⌜ (x ≤ 2000000) × (1 ≤ period) × (period ≤ 1000000) × (inverse ≡ inverseOf period) ⌝ }

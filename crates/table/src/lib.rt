@@ -7,7 +7,7 @@ ghost use Rattle.table.specs.Opinion.{Shows, shownOf, refusedOf};
 
 pub mod budgets;
 pub mod busy;
-mod demand;
+pub mod demand;
 mod drop;
 pub mod first;
 pub mod inverse;

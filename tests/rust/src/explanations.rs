@@ -5,7 +5,7 @@ use std::fmt;
 use crate::draws::{Draw, Drawn};
 use crate::explanation::{Cause, Explanation, JobPart, IDLE_PART};
 use crate::session::Session;
-use crate::table::{Kind, ROW_LIMIT};
+use crate::table::{budgets, Kind, ROW_LIMIT};
 use crate::tally::Among;
 
 /// An explanation, and what it is of.
@@ -13,6 +13,8 @@ pub struct Told<'a> {
     kind: Kind,
     explanation: &'a Explanation,
     drawn: Drawn<'a>,
+    /// Whether a job has a budget above V, and its row is not brittle.
+    has_more_than_v: bool,
 }
 
 impl<'a> Told<'a> {
@@ -22,6 +24,7 @@ impl<'a> Told<'a> {
             kind: session.kind,
             explanation,
             drawn: Drawn::new(session, words),
+            has_more_than_v: has_more_than_v(session),
         }
     }
 
@@ -79,6 +82,11 @@ impl<'a> Told<'a> {
     }
 }
 
+fn has_more_than_v(session: &Session) -> bool {
+    let mut slots = session.slots.iter().zip(budgets(&session.rows));
+    slots.any(|(slot, v)| slot.job.is_some_and(|job| v >= 0 && job.budget > v))
+}
+
 /// A sort of explanations: its name, of how many inputs of the program and of how many
 /// calls of the library there must be one, and which explanations are such.
 struct Sort {
@@ -91,7 +99,7 @@ const fn sort(name: &'static str, one_in: [u64; 2], has: fn(&Told) -> bool) -> S
     Sort { name, one_in, has }
 }
 
-const SORTS: [Sort; 27] = [
+const SORTS: [Sort; 28] = [
     sort("loose, by remaining ticks", [1, 200], |told| {
         told.is(Kind::Loose, Cause::Remaining)
     }),
@@ -188,6 +196,7 @@ const SORTS: [Sort; 27] = [
             spent && told.jobs()[0].budget > 0
         },
     ),
+    sort("of a budget above V", [1, 100], |told| told.has_more_than_v),
     sort("of equal deadlines", [1, 130], |told| told.has_tie()),
     sort("of a deadline of 10 digits or more", [40, 160], |told| {
         told.has_job(|job| job.due >= 1_000_000_000)

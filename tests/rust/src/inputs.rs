@@ -8,8 +8,8 @@ use crate::runs::{extend, Style};
 use crate::specification::plain;
 use crate::table::{self, opinion_on, Row, HORIZON, ROW_LIMIT};
 use crate::tables::{
-    admitted, admitted_as, any_rows, close_rows, full_rows, light_rows, long_busy_rows,
-    part_brittle_rows, roomy_rows, small_rows, staggered_rows, RowMaker,
+    admitted, admitted_as, any_rows, close_rows, counting_rows, full_rows, light_rows,
+    long_busy_rows, part_brittle_rows, roomy_rows, small_rows, staggered_rows, RowMaker,
 };
 use crate::text::{Command, Machine, INPUT_LIMIT, WORD_LIMIT};
 use crate::words::more_words;
@@ -26,24 +26,26 @@ pub const fn kind(name: &'static str, weight: usize, make: fn(&mut Rng) -> Vec<u
 }
 
 pub const KINDS: &[Kind] = &[
-    kind("tables", 180, any_table),
+    kind("tables", 220, any_table),
     kind("long-busy", 12, long_busy_table),
-    kind("overloads", 220, overloaded_table),
-    kind("late-overloads", 40, late_overload),
+    kind("overloads", 300, overloaded_table),
+    kind("late-overloads", 72, late_overload),
     kind("runs", 240, light_run),
     kind("collisions", 200, small_run),
     kind("full-load", 100, full_run),
     kind("ties", 300, loose_ties),
-    kind("tight-ties", 120, tight_ties),
+    kind("tight-ties", 140, tight_ties),
     kind("gifts", 300, loose_gifts),
-    kind("tight-gifts", 160, tight_gifts),
-    kind("draws", 420, long_draws),
+    kind("tight-gifts", 240, tight_gifts),
+    kind("draws", 620, long_draws),
+    kind("counts", 80, loose_counts),
     kind("mixed-runs", 80, mixed_run),
-    kind("mixed-limits", 360, long_limits),
+    kind("mixed-limits", 480, long_limits),
     kind("mixed-ties", 80, mixed_ties),
-    kind("mixed-gifts", 180, mixed_gifts),
-    kind("mixed-draws", 140, mixed_draws),
-    kind("word-lists", 20, word_lists),
+    kind("mixed-gifts", 250, mixed_gifts),
+    kind("mixed-draws", 180, mixed_draws),
+    kind("mixed-counts", 240, mixed_counts),
+    kind("word-lists", 30, word_lists),
     kind("damaged", 150, damaged_run),
     kind("numbers", 60, odd_number),
     kind("noise", 30, noise),
@@ -239,6 +241,35 @@ fn mixed_gifts(rng: &mut Rng) -> Vec<u8> {
 /// A short run in which finishes give.
 pub fn short_gifts(rng: &mut Rng) -> Vec<u8> {
     giving_run(rng, table::Kind::Loose, 60)
+}
+
+/// A run in which jobs come later than others counted on, and are due after them.
+fn counting_run(rng: &mut Rng, rows: &[Row], most_steps: u32) -> Vec<u8> {
+    let mut driver = Driver::new(rows);
+    let style = Style::counting(rng);
+    let steps = rng.between(20, most_steps) as usize;
+    extend(&mut driver, rng, style, steps);
+    driver.text
+}
+
+fn loose_counts(rng: &mut Rng) -> Vec<u8> {
+    let makers: [RowMaker; 3] = [counting_rows, counting_rows, staggered_rows];
+    let make = rng.pick(&makers);
+    let rows = admitted_as(rng, make, table::Kind::Loose);
+    counting_run(rng, &rows, 120)
+}
+
+fn mixed_counts(rng: &mut Rng) -> Vec<u8> {
+    let makers: [RowMaker; 4] = [counting_rows, counting_rows, counting_rows, mixed_rows];
+    let make = rng.pick(&makers);
+    let rows = admitted_as(rng, make, table::Kind::Mixed);
+    counting_run(rng, &rows, 120)
+}
+
+/// A short run of any kind of table in which jobs come later than others counted on.
+pub fn short_counts(rng: &mut Rng) -> Vec<u8> {
+    let rows = admitted(rng, counting_rows);
+    counting_run(rng, &rows, 50)
 }
 
 /// A run in which words lie near the limits of draws.

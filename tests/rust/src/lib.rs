@@ -1,6 +1,7 @@
 //! An independent model of the shuffled earliest-deadline scheduler, written
 //! from the specification alone, and what the comparing tools share.
 
+pub mod arrivals;
 pub mod batches;
 pub mod calls;
 pub mod comparison;

@@ -7,7 +7,7 @@ use std::fmt;
 use crate::calls::{candidates, candidates_where, pick};
 use crate::gifts::{shares, wrong_execute_without_gifts, Share};
 use crate::session::{Choice, Session, IDLE};
-use crate::table::{brittle_rows, opinion_on, Kind, Opinion, Row, ROW_LIMIT};
+use crate::table::{brittle_rows, budget, opinion_on, Kind, Opinion, Row, ROW_LIMIT};
 use crate::tally::{too_rare, Among};
 use crate::text::{leading_rows, run_with, Command, Machine, Outcome};
 
@@ -256,17 +256,17 @@ const CHOICES: [ChoiceSort; 11] = [
 
 /// What their answer depends on: by another rule it would be another one.
 const DEPENDING: [ChoiceSort; 10] = [
-    sort("depend on a brittle job to come", [2, 500], |choice| {
+    sort("depend on a brittle job to come", [3, 500], |choice| {
         choice.differs_by(None)
     }),
-    sort("depend on brittle rows alone", [20, 2_500], |choice| {
+    sort("depend on brittle rows alone", [25, 2_500], |choice| {
         choice.differs_with(|row| Some(choice.session.next_deadline(row)))
     }),
     sort("depend on the clock", [60, 5_000], |choice| {
         let Session { slots, .. } = choice.session;
         choice.differs_with_brittle(|row| Some(slots[row].next + choice.deadline(row)))
     }),
-    sort("depend on the earliest next arrival", [4, 800], |choice| {
+    sort("depend on the earliest next arrival", [5, 800], |choice| {
         let clock = choice.session.clock;
         choice.differs_with_brittle(|row| Some(clock + choice.deadline(row)))
     }),
@@ -346,7 +346,7 @@ const FINISHES: [FinishSort; 5] = [
         one_in: [50, 5_000],
         has: |session, shares| {
             let mut gaining = shares.iter().filter(|(_, share)| share.is_gain());
-            gaining.any(|(row, _)| session.arrival_budget(*row as usize) == 0)
+            gaining.any(|(row, _)| budget(&session.rows, *row as usize) == 0)
         },
     },
 ];
@@ -664,8 +664,8 @@ const HELD: [HeldSort; 11] = [
         held.has_job(|session, row, _| session.is_brittle(row))
     }),
     held("have a budget at its limit above V", 100, |held| {
-        held.has_job(|session, row, budget| {
-            budget == session.budget_limit(row) && budget > session.arrival_budget(row)
+        held.has_job(|session, row, left| {
+            left == session.budget_limit(row) && left > budget(&session.rows, row).max(0)
         })
     }),
     held("have idle in force though a job waits", 500, |held| {

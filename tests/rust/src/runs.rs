@@ -28,6 +28,9 @@ pub struct Style {
     /// Out of 8 of the steps that are left then, how many are made so that brittle jobs
     /// to come decide what may run before the head.
     pub brittle: usize,
+    /// Out of 8 of the steps that are left then, how many are made so that a job that
+    /// another counted on its arrival comes later, and is due after it.
+    pub counted: usize,
     /// Out of 8 steps at which a chosen job may go on, how many finish it.
     pub finishes: usize,
 }
@@ -42,6 +45,7 @@ impl Style {
             gifts: 0,
             draws: 0,
             brittle: 0,
+            counted: 0,
             finishes: rng.pick(&[1, 1, 4]),
         }
     }
@@ -82,6 +86,15 @@ impl Style {
             ..Style::random(rng)
         }
     }
+
+    /// A style in which jobs often come later than others counted on.
+    pub fn counting(rng: &mut Rng) -> Self {
+        Style {
+            meetings: 0,
+            counted: rng.pick(&[6, 7, 8]),
+            ..Style::random(rng)
+        }
+    }
 }
 
 /// Extends an input by random calls.
@@ -106,6 +119,8 @@ pub fn random_command(machine: &Machine, rng: &mut Rng, style: Style) -> Command
         drawing_command(machine, rng, style)
     } else if rng.chance(style.brittle, 8) {
         limiting_command(machine, rng, style)
+    } else if rng.chance(style.counted, 8) {
+        counting_command(machine, rng, style)
     } else {
         accepted_call(&machine.session, rng, style)
     }
@@ -279,6 +294,73 @@ fn limiting_command(machine: &Machine, rng: &mut Rng, style: Style) -> Command {
         }
         _ => run_or_choose(session, rng, style),
     }
+}
+
+/// A command on the way to a choice between a job and one that it counted on its
+/// arrival, but that has come later and is due after it. If no job waits the row of the
+/// longest D arrives first, and otherwise now and then that of the shortest.
+fn counting_command(machine: &Machine, rng: &mut Rng, style: Style) -> Command {
+    let Machine { session, words } = machine;
+    let late = late_rows(session);
+    if !late.is_empty() && rng.chance(3, 4) {
+        return Command::Arrive(rng.pick(&late));
+    }
+    let is_free = session.waiting().next().is_none();
+    let mut ready = ready_rows(session);
+    ready.sort_by_key(|row| session.rows[*row as usize].deadline);
+    if let [shortest, .., longest] = ready[..] {
+        if rng.chance(if is_free { 7 } else { 3 }, 8) {
+            return Command::Arrive(if is_free { longest } else { shortest });
+        }
+    }
+    match session.choice {
+        None if !words.is_empty() => Command::Choose,
+        None if rng.chance(1, 4) => Command::Word(random_word(machine, rng)),
+        None => Command::Word(candidates(session).len() as u32 - 1),
+        Some(choice) if later_job_waits(session, choice) && rng.chance(1, 2) => Command::Finish,
+        Some(choice) => {
+            let moments = late_ticks(session, choice.left);
+            if moments.is_empty() || rng.chance(1, 8) {
+                run_or_choose(session, rng, style)
+            } else {
+                Command::Advance(rng.pick(&moments) as u32)
+            }
+        }
+    }
+}
+
+/// The waiting jobs and the rows that each of them counted on its arrival, with the first
+/// tick at which a job of that row is due after it.
+fn late_moments(session: &Session) -> Vec<(u32, u64)> {
+    let mut moments = Vec::new();
+    for first in 0..session.rows.len() as u32 {
+        let (Some(job), Some(arrival)) = (session.job(first), session.arrival(first)) else {
+            continue;
+        };
+        for (row, slot) in (0..).zip(&session.slots) {
+            let deadline = u64::from(session.rows[row as usize].deadline);
+            let earliest = i128::from(slot.next).max(arrival) + i128::from(deadline);
+            if row != first && slot.job.is_none() && earliest <= i128::from(job.due) {
+                moments.push((row, job.due + 1 - deadline));
+            }
+        }
+    }
+    moments
+}
+
+/// The rows that may arrive now, of which another job counted an earlier arrival.
+fn late_rows(session: &Session) -> Vec<u32> {
+    let ready = ready_rows(session);
+    let moments = late_moments(session).into_iter();
+    let late = moments.filter(|(row, moment)| ready.contains(row) && *moment <= session.clock);
+    late.map(|(row, _)| row).collect()
+}
+
+/// Ticks below `left` after which one more row is such.
+fn late_ticks(session: &Session, left: u64) -> Vec<u64> {
+    let moments = late_moments(session).into_iter();
+    let ticks = moments.filter_map(|(_, moment)| moment.checked_sub(session.clock));
+    ticks.filter(|ticks| (1..left).contains(ticks)).collect()
 }
 
 /// The deadlines of the waiting jobs but for the head.

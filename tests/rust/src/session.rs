@@ -73,12 +73,45 @@ impl Session {
         }
     }
 
-    /// The budget with which a job of this row arrives; finishes may add to it.
+    /// The budget with which a job of this row arrives now; finishes may add to it.
     pub fn arrival_budget(&self, row: usize) -> i64 {
         if self.is_brittle(row) {
             return 0;
         }
-        budget(&self.rows, row)
+        self.slack(row).max(0)
+    }
+
+    /// D − C of a job of this row that arrives now, less what each other row can ask for
+    /// up to its deadline. Never below V in a sound session: the jobs of another row are
+    /// due after the clock and T apart, so that they ask for no more than V takes off.
+    pub fn slack(&self, row: usize) -> i64 {
+        let due = self.clock + u64::from(self.rows[row].deadline);
+        let others = (0..self.rows.len()).filter(|other| *other != row);
+        let asked =
+            others.map(|other| self.waiting_work(other, due) + self.coming_work(other, due));
+        self.rows[row].spare() - asked.sum::<i64>()
+    }
+
+    /// The remaining ticks of a row's waiting job, if it is due no later than this.
+    pub fn waiting_work(&self, row: usize, due: u64) -> i64 {
+        let job = self.slots[row].job.filter(|job| job.due <= due);
+        job.map_or(0, |job| job.left as i64)
+    }
+
+    /// C for each deadline no later than this one that the jobs of a row still to come
+    /// can have.
+    pub fn coming_work(&self, row: usize, due: u64) -> i64 {
+        i64::from(self.rows[row].run) * self.coming_deadlines(row, due) as i64
+    }
+
+    /// How many deadlines no later than this one the jobs of a row still to come can
+    /// have: the first of them arrives now, or once it may, the others T apart.
+    pub fn coming_deadlines(&self, row: usize, due: u64) -> u64 {
+        let first = self.next_deadline(row);
+        if due < first {
+            return 0;
+        }
+        (due - first) / u64::from(self.rows[row].period) + 1
     }
 
     /// The most that the budget of a job of this row can be.

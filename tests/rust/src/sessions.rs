@@ -2,16 +2,17 @@
 
 use crate::rng::Rng;
 use crate::session::{start_rows, Choice, Job, Session, Slot, CLOCK_END, IDLE};
-use crate::table::{Kind, Row, HORIZON};
+use crate::table::{budget, Kind, Row, HORIZON};
 use crate::tables::{
-    admitted, close_rows, full_rows, light_rows, part_brittle_rows, roomy_rows, small_rows,
-    staggered_rows, urgent_rows, RowMaker,
+    admitted, close_rows, counting_rows, full_rows, light_rows, part_brittle_rows, roomy_rows,
+    small_rows, staggered_rows, urgent_rows, RowMaker,
 };
 
 /// An admitted table whose soundness the model decides quickly.
 pub fn random_table(rng: &mut Rng) -> Vec<Row> {
-    let makers: [RowMaker; 12] = [
+    let makers: [RowMaker; 13] = [
         close_rows,
+        counting_rows,
         part_brittle_rows,
         part_brittle_rows,
         light_rows,
@@ -48,6 +49,9 @@ pub fn sound_session(rng: &mut Rng) -> Session {
     }
     if session.kind == Kind::Mixed && rng.chance(2, 3) {
         let_brittle_jobs_come(rng, &mut session);
+    }
+    if rng.chance(1, 6) {
+        meet_an_arrival(rng, &mut session);
     }
     if rng.chance(1, 2) {
         let choice = sound_choice(rng, &session);
@@ -99,14 +103,13 @@ fn waiting_slot(rng: &mut Rng, session: &Session, row: usize, due: u64) -> Slot 
     }
 }
 
-/// Any budget that a job of a row can have; often 0, that of an arrival, or the
-/// most that it can be.
+/// Any budget that a job of a row can have; often 0, V, or the most that it can be.
 fn sound_budget(rng: &mut Rng, session: &Session, row: usize) -> u64 {
-    let arrival_budget = session.arrival_budget(row) as u64;
+    let v = budget(&session.rows, row).max(0) as u64;
     let limit = session.budget_limit(row) as u64;
     match rng.below(3) {
-        0 => edge(rng, 0, arrival_budget),
-        1 => edge(rng, arrival_budget, limit),
+        0 => edge(rng, 0, v),
+        1 => edge(rng, v, limit),
         _ => edge(rng, 0, limit),
     }
 }
@@ -161,6 +164,34 @@ fn let_brittle_jobs_come(rng: &mut Rng, session: &mut Session) {
             due.saturating_sub(u64::from(deadline) + 1)
         };
         session.slots[row].next = next.min(latest);
+    }
+}
+
+/// Lets some row be ready to arrive, and others have a job, waiting or to come, that is
+/// due when that of this row would be, or a tick earlier or later.
+fn meet_an_arrival(rng: &mut Rng, session: &mut Session) {
+    let row = rng.below(session.rows.len());
+    let clock = session.clock;
+    session.slots[row] = Slot {
+        next: edge(rng, 0, clock),
+        job: None,
+    };
+    for other in (0..session.rows.len()).filter(|other| *other != row) {
+        let due = clock + u64::from(session.rows[row].deadline + rng.between(0, 2)) - 1;
+        let [_, period, deadline] = session.rows[other].numbers().map(u64::from);
+        match rng.below(4) {
+            0 if clock < due && due <= clock + deadline => {
+                session.slots[other] = waiting_slot(rng, session, other, due);
+            }
+            1 if clock + deadline <= due => {
+                let ahead = (due - deadline - clock) % period;
+                session.slots[other] = Slot {
+                    next: clock + ahead,
+                    job: None,
+                };
+            }
+            _ => {}
+        }
     }
 }
 

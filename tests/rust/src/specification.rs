@@ -1,8 +1,9 @@
 //! The specification's own examples, moments at which equal deadlines go by who
 //! came first (change request 01), moments at which unused time goes to the jobs
 //! behind (change request 02), moments at which words are passed over (change
-//! request 04), tables of which the first overload is named (change request 06), and
-//! moments of mixed tables (change request 07).
+//! request 04), tables of which the first overload is named (change request 06),
+//! moments of mixed tables (change request 07), and moments that show with which budget
+//! a job arrived.
 
 use crate::table::Row;
 
@@ -12,7 +13,7 @@ const LISTING_INPUT: &str =
 
 /// The listing's output in the same form.
 const LISTING_OUTPUT: &str = "0 M 0 1 2/0 B 0 0 5/0 B 0 1 8/0 A 0 0 10/0 A 0 1 15/0 G 0 1 1/\
-    1 R 0 0 0/1 G 0 16 2/3 R 0 0 0/3 G 0 0 2/4 R 0 1 0/4 F 0 0 1/4 A 7 0 10/";
+    1 R 0 0 0/1 G 0 16 6/3 R 0 4 0/3 G 8 4 0/4 R 0 3 0/4 F 11 0 0/4 A 7 0 10/";
 
 /// Text written with `/` for a line end and a space for a tab.
 pub fn plain(text: &str) -> String {
@@ -211,6 +212,11 @@ pub fn mixed() -> Vec<(String, String)> {
     whole(MIXED)
 }
 
+/// The inputs that show with which budget a job arrived, each with its output.
+pub fn arrivals() -> Vec<(String, String)> {
+    whole(ARRIVALS)
+}
+
 const TIES: &[Moment] = &[
     // Row 1 arrives at 0, row 0 at 10, both for 20: row 1 is the head.
     Moment {
@@ -248,7 +254,7 @@ const TIES: &[Moment] = &[
             ["W 0/G/", "20 G 0 2 1/"],
             ["W 1/G/", "20 G 0 0 1/"],
             ["W 2/G/", "20 G 0 1 1/"],
-            ["W 3/W 9/G/", "20 G 0 16 2/"],
+            ["W 3/W 9/G/", "20 G 0 16 5/"],
             [
                 "G/R 1/G/R 1/G/R 1/",
                 "20 G 0 2 1/21 R 0 0 1/21 G 0 0 1/22 R 0 0 1/22 G 0 1 1/23 R 0 0 1/",
@@ -294,7 +300,7 @@ const TIES: &[Moment] = &[
 ];
 
 const GIFTS: &[Moment] = &[
-    // V of row 1 is 30 − 3 − 4 = 23. Row 0 gives what it leaves of its 4 ticks.
+    // Row 1 has 30 − 3 − 4 = 23. Row 0 gives what it leaves of its 4 ticks.
     Moment {
         input: "T 4 100 20/T 3 100 30/A 0/A 1/G/",
         output: "0 M 0 1 2/0 B 0 0 13/0 B 0 1 23/0 A 0 0 20/0 A 0 1 30/0 G 0 0 4/",
@@ -305,11 +311,11 @@ const GIFTS: &[Moment] = &[
             ["R 4/W 1/G/", "4 R 0 0 1/4 G 0 16 23/"],
         ],
     },
-    // Row 1 has the later deadline and gives nothing: row 0 keeps its V of 5.
+    // Row 1 has the later deadline and gives nothing: row 0 keeps its D − C of 8.
     Moment {
         input: "T 2 100 10/T 3 100 20/A 0/A 1/W 1/G/F/",
         output: "0 M 0 1 2/0 B 0 0 5/0 B 0 1 15/0 A 0 0 10/0 A 0 1 20/0 G 0 1 3/0 F 0 1 3/",
-        ends: &[["W 1/G/", "0 G 0 16 5/"]],
+        ends: &[["W 1/G/", "0 G 0 16 8/"]],
     },
     // Both are for 20 at 10, with budgets of 6 and 4: neither gives to the other.
     Moment {
@@ -335,39 +341,43 @@ const GIFTS: &[Moment] = &[
                 "W 2/W 1/G/F/W 1/W 2/G/F/G/F/W 1/G/",
                 "0 G 0 2 2/0 F 0 2 2/0 G 0 1 3/0 F 0 1 3/0 G 0 0 4/0 F 0 0 4/0 G 0 16 45/",
             ],
-            // Row 1 runs a tick ahead of row 0, which has 5 then and limits idle.
+            // Row 1 runs a tick ahead of row 0, which has 15 then and limits idle.
             [
                 "W 1/W 2/G/R 1/F/W 3/G/",
-                "0 G 0 1 3/1 R 0 2 0/1 F 0 1 2/1 G 0 16 5/",
+                "0 G 0 1 3/1 R 0 2 0/1 F 0 1 2/1 G 0 16 15/",
             ],
         ],
     },
-    // Row 2 runs ahead of row 1, whose budget is 14 + 5 once row 0 has finished.
+    // After 40 ticks of idle row 0 has 5 left of its 45, row 1 14 of its 54, row 2 as many.
+    // Row 2 runs ahead of row 1, which has 14 + 5 once row 0 has finished.
     Moment {
-        input: "T 5 100 50/T 1 100 60/T 40 100 100/A 0/A 1/A 2/G/",
+        input: "T 5 100 50/T 1 100 60/T 40 100 100/A 0/A 1/A 2/W 3/W 39/G/R 40/G/",
         output: "0 M 0 1 3/0 B 0 0 4/0 B 0 1 14/0 B 0 2 54/\
-            0 A 0 0 50/0 A 0 1 60/0 A 0 2 100/0 G 0 0 5/",
+            0 A 0 0 50/0 A 0 1 60/0 A 0 2 100/0 G 0 16 40/40 R 0 0 0/40 G 0 0 5/",
         ends: &[
-            ["F/W 1/G/", "0 F 0 0 5/0 G 0 2 19/"],
-            ["F/W 2/W 18/G/", "0 F 0 0 5/0 G 0 16 19/"],
-            ["F/W 2/W 19/G/", "0 F 0 0 5/0 G 0 16 1/"],
+            ["F/W 1/G/", "40 F 0 0 5/40 G 0 2 19/"],
+            ["F/W 2/W 18/G/", "40 F 0 0 5/40 G 0 16 19/"],
+            ["F/W 2/W 19/G/", "40 F 0 0 5/40 G 0 16 1/"],
         ],
     },
-    // Row 1 arrives with a budget of 0; the 3 ticks of row 0 let idle go first.
+    // Row 0 waits for 108 when row 1 arrives for 109, with a budget of 9 − 5 − 4 = 0. The 3
+    // ticks of row 0 let idle go before row 1.
     Moment {
-        input: "T 4 100 40/T 5 100 9/A 0/W 1/W 30/G/R 31/G/R 1/A 1/W 1/G/",
-        output: "0 M 0 1 2/0 B 0 0 31/0 B 0 1 0/0 A 0 0 40/0 G 0 16 31/31 R 0 0 0/31 G 0 0 4/\
-            32 R 0 3 0/32 A 0 1 41/32 G 0 0 3/",
+        input: "T 4 100 40/T 5 100 9/A 1/G/R 5/G/R 63/A 0/W 1/W 31/G/R 32/A 1/G/R 1/",
+        output: "0 M 0 1 2/0 B 0 0 31/0 B 0 1 0/0 A 0 1 9/0 G 0 1 5/5 R 0 0 1/\
+            5 G 0 16 1000000/68 R 0 999937 0/68 A 0 0 108/68 G 0 16 32/100 R 0 0 0/\
+            100 A 0 1 109/100 G 0 0 4/101 R 0 3 0/",
         ends: &[
-            ["F/G/", "32 F 0 0 3/32 G 0 16 3/"],
-            ["R 3/G/", "35 R 0 0 1/35 G 0 1 5/"],
+            ["F/W 1/G/", "101 F 0 0 3/101 G 0 16 3/"],
+            ["R 3/W 1/G/", "104 R 0 0 1/104 G 0 1 5/"],
             [
-                "R 2/F/G/R 1/G/",
-                "34 R 0 1 0/34 F 0 0 1/34 G 0 16 1/35 R 0 0 0/35 G 0 1 5/",
+                "R 2/F/W 1/G/R 1/G/",
+                "103 R 0 1 0/103 F 0 0 1/103 G 0 16 1/104 R 0 0 0/104 G 0 1 5/",
             ],
         ],
     },
-    // The job that gained is over; the next one of its row has V, 23, again.
+    // The job that gained is over. The next one of its row has 23 again, since row 0 may
+    // come at 100 too.
     Moment {
         input: "T 4 100 20/T 3 100 30/A 0/A 1/G/F/G/R 3/G/R 97/A 1/",
         output: "0 M 0 1 2/0 B 0 0 13/0 B 0 1 23/0 A 0 0 20/0 A 0 1 30/0 G 0 0 4/0 F 0 0 4/\
@@ -384,11 +394,11 @@ const GIFTS: &[Moment] = &[
 
 const DRAWS: &[Moment] = &[
     // Five candidates: 4294967295 is passed over. So it is for the 3 lengths of
-    // row 1 and the 5 of row 3; for the 6 of idle all from 4294967292 on are.
+    // row 1 and the 5 of row 3; for the 14 of idle all from 4294967292 on are.
     Moment {
-        input: "T 4 100 20/T 3 100 30/T 2 100 40/T 5 100 50/A 0/A 1/A 2/A 3/",
-        output: "0 M 0 1 4/0 B 0 0 6/0 B 0 1 16/0 B 0 2 26/0 B 0 3 36/\
-            0 A 0 0 20/0 A 0 1 30/0 A 0 2 40/0 A 0 3 50/",
+        input: "T 4 100 18/T 3 100 30/T 2 100 40/T 5 100 50/A 0/A 1/A 2/A 3/",
+        output: "0 M 0 1 4/0 B 0 0 4/0 B 0 1 16/0 B 0 2 26/0 B 0 3 36/\
+            0 A 0 0 18/0 A 0 1 30/0 A 0 2 40/0 A 0 3 50/",
         ends: &[
             ["W 4294967294/W 1/G/", "0 G 0 16 2/"],
             ["W 4294967295/W 1/W 1/G/", "0 G 0 1 2/"],
@@ -402,13 +412,13 @@ const DRAWS: &[Moment] = &[
                 "W 1/W 4294967295/G/R 3/W 1/G/",
                 "0 G 0 1 3/3 R 0 0 1/3 G 0 2 2/",
             ],
-            ["W 4/W 4294967291/W 0/G/", "0 G 0 16 6/"],
+            ["W 4/W 4294967291/W 0/G/", "0 G 0 16 14/"],
             ["W 4/W 4294967292/W 0/G/", "0 G 0 16 1/"],
             [
                 "W 4/W 4294967292/W 4294967295/W 4294967293/G/",
-                "0 G 0 16 6/",
+                "0 G 0 16 14/",
             ],
-            // The first choice uses five words. Row 0 then has 3 left of its budget.
+            // The first choice uses five words. Row 0 then has 11 left of its budget.
             [
                 "W 4294967295/W 3/W 4294967295/W 4294967295/W 2/W 4294967295/W 1/W 1/G/R 3/G/",
                 "0 G 0 3 3/3 R 0 0 0/3 G 0 1 2/",
@@ -466,22 +476,22 @@ const DRAWS: &[Moment] = &[
 
 const MIXED: &[Moment] = &[
     // V of row 0 is 12 − 44 = −32, of row 1 50 − 44 = 6, of row 2 112 − 30 − 20 − 8 = 54.
-    // The next job of row 0 is due at 100 + 12 or later, just when row 2 is.
+    // The next job of row 0 is due at 100 + 12 or later, just when row 2 is. Row 1 has 36,
+    // since row 2 is due later.
     Moment {
         input: "T 10 100 12/T 4 100 50/T 30 200 112/A 0/A 1/A 2/W 1/",
         output: "0 M 0 3 3/0 B 0 0 -32/0 B 0 1 6/0 B 0 2 54/0 A 0 0 12/0 A 0 1 50/0 A 0 2 112/",
         ends: &[
             // Row 0 has no budget. Then there are two candidates, and no idle.
-            ["G/R 10/G/", "0 G 0 0 10/10 R 0 0 1/10 G 0 2 6/"],
+            ["G/R 10/G/", "0 G 0 0 10/10 R 0 0 1/10 G 0 2 30/"],
             ["G/R 10/W 2/G/", "0 G 0 0 10/10 R 0 0 1/10 G 0 2 3/"],
             [
-                "G/R 10/W 8/G/R 3/W 3/W 1/G/R 2/W 5/G/R 1/W 1/G/",
-                "0 G 0 0 10/10 R 0 0 1/10 G 0 2 3/13 R 0 0 0/13 G 0 2 2/15 R 0 0 0/15 G 0 2 1/\
-                    16 R 0 0 0/16 G 0 1 4/",
+                "G/R 10/W 8/G/R 9/W 3/W 20/G/R 21/W 1/G/",
+                "0 G 0 0 10/10 R 0 0 1/10 G 0 2 9/19 R 0 0 0/19 G 0 2 21/40 R 0 0 1/40 G 0 1 4/",
             ],
-            // What row 0 leaves goes to row 1, as budget: 6 + 10, and 6 + 6.
-            ["G/F/G/", "0 G 0 0 10/0 F 0 0 10/0 G 0 2 16/"],
-            ["G/R 4/F/G/", "0 G 0 0 10/4 R 0 6 0/4 F 0 0 6/4 G 0 2 12/"],
+            // What row 0 leaves goes to row 1, which could wait for all of row 2 before.
+            ["G/F/G/", "0 G 0 0 10/0 F 0 0 10/0 G 0 2 30/"],
+            ["G/R 4/F/G/", "0 G 0 0 10/4 R 0 6 0/4 F 0 0 6/4 G 0 2 30/"],
             // Row 1 alone runs without a word, and then idle does.
             [
                 "G/F/W 0/W 5/G/F/G/R 4/G/",
@@ -513,8 +523,8 @@ const MIXED: &[Moment] = &[
             ],
         ],
     },
-    // V of row 0 is 19 − 21 = −2, and 1, 1, 29. Rows 1 and 2 are due at 22. A job of row
-    // 0 that comes at 3 is too, and one that comes at 2 is not.
+    // V of row 0 is 19 − 21 = −2, and 1, 1, 29. Rows 1 and 2 are due at 22, with 22 − 20 of
+    // budget. A job of row 0 that comes at 3 is due then too, and one that comes at 2 is not.
     Moment {
         input: "T 10 100 19/T 5 100 22/T 5 100 22/T 1 100 50/A 1/A 2/W 1/G/",
         output: "0 M 0 3 4/0 B 0 0 -2/0 B 0 1 1/0 B 0 2 1/0 B 0 3 29/0 A 0 1 22/0 A 0 2 22/\
@@ -524,15 +534,15 @@ const MIXED: &[Moment] = &[
             ["R 3/A 3/G/", "3 R 0 2 0/3 A 0 3 53/3 G 0 2 5/"],
             ["R 4/A 3/G/", "4 R 0 1 0/4 A 0 3 54/4 G 0 2 5/"],
             // It does come at 4, for 23. The next one is due at 123 or later, so that it
-            // may run before the two, for one tick, but row 3 not before it.
+            // may run before the two, for two ticks, but row 3 not before it.
             [
                 "R 4/A 3/A 0/G/",
                 "4 R 0 1 0/4 A 0 3 54/4 A 0 0 23/4 G 0 2 5/",
             ],
             [
-                "R 4/A 3/A 0/G/R 5/W 1/W 7/G/R 1/W 1/G/",
-                "4 R 0 1 0/4 A 0 3 54/4 A 0 0 23/4 G 0 2 5/9 R 0 0 1/9 G 0 0 1/10 R 0 0 0/\
-                    10 G 0 1 1/",
+                "R 4/A 3/A 0/G/R 5/W 1/W 7/G/R 2/W 1/G/",
+                "4 R 0 1 0/4 A 0 3 54/4 A 0 0 23/4 G 0 2 5/9 R 0 0 1/9 G 0 0 2/11 R 0 0 0/\
+                    11 G 0 1 1/",
             ],
             // Rows 1 and 2 leave 1 and 5 to row 3, and nothing to row 0.
             [
@@ -568,7 +578,7 @@ const MIXED: &[Moment] = &[
         output: "0 M 0 3 4/0 B 0 0 -33/0 B 0 1 5/0 B 0 2 52/0 B 0 3 15/0 A 0 0 12/0 A 0 1 50/\
             0 A 0 2 112/0 G 0 0 10/10 R 0 0 1/",
         ends: &[
-            ["G/", "10 G 0 2 5/"],
+            ["G/", "10 G 0 2 30/"],
             // It does come, for 70, and stands between the two.
             ["A 3/G/", "10 A 0 3 70/10 G 0 3 1/"],
             // Word 1 is used for it, 8 for its only length, then 1 and 3 for row 2.
@@ -578,18 +588,19 @@ const MIXED: &[Moment] = &[
             ],
         ],
     },
-    // V of row 1 is 44 − 44 = 0: it cannot wait until row 0 leaves it some time.
+    // V of row 1 is 23 − 23 = 0. It arrives with nothing, since row 2 could come at once
+    // for 22. Row 2 comes later, for after 23, but row 1 cannot wait unless row 0 has left
+    // it some time.
     Moment {
-        input: "T 10 100 12/T 4 100 44/T 30 200 112/A 0/A 1/A 2/W 1/G/",
-        output: "0 M 0 3 3/0 B 0 0 -32/0 B 0 1 0/0 B 0 2 54/0 A 0 0 12/0 A 0 1 44/0 A 0 2 112/\
-            0 G 0 0 10/",
+        input: "T 10 40 10/T 1 40 23/T 12 40 22/A 0/A 1/W 1/G/",
+        output: "0 M 0 3 3/0 B 0 0 -13/0 B 0 1 0/0 B 0 2 -1/0 A 0 0 10/0 A 0 1 23/0 G 0 0 10/",
         ends: &[
-            ["F/G/", "0 F 0 0 10/0 G 0 2 10/"],
+            ["R 2/F/A 2/G/", "2 R 0 8 0/2 F 0 0 8/2 A 0 2 24/2 G 0 2 8/"],
             [
-                "R 9/F/G/R 1/W 1/G/",
-                "9 R 0 1 0/9 F 0 0 1/9 G 0 2 1/10 R 0 0 0/10 G 0 1 4/",
+                "R 9/F/A 2/G/R 1/W 1/G/",
+                "9 R 0 1 0/9 F 0 0 1/9 A 0 2 31/9 G 0 2 1/10 R 0 0 0/10 G 0 1 1/",
             ],
-            ["R 10/G/", "10 R 0 0 1/10 G 0 1 4/"],
+            ["R 10/A 2/G/", "10 R 0 0 1/10 A 0 2 32/10 G 0 1 1/"],
         ],
     },
     // While a job waits idle is no candidate, and with one candidate no word is used.
@@ -621,5 +632,97 @@ const MIXED: &[Moment] = &[
         input: "T 2 4 4/T 1 6 6/A 1/A 0/W 1/",
         output: "0 M 0 1 2/0 B 0 0 1/0 B 0 1 1/0 A 0 1 6/0 A 0 0 4/",
         ends: &[["G/", "0 G 0 1 1/"]],
+    },
+];
+
+const ARRIVALS: &[Moment] = &[
+    // V is 3, 8 and 0. Row 2, which is due first, does not wait for the others.
+    Moment {
+        input: "T 1 10 10/T 2 20 20/T 2 5 5/",
+        output: "0 M 0 1 3/0 B 0 0 3/0 B 0 1 8/0 B 0 2 0/",
+        ends: &[
+            ["A 2/W 1/G/", "0 A 0 2 5/0 G 0 16 3/"],
+            // Row 0 waits for two jobs of row 2, and row 1 for two and four.
+            ["A 0/W 1/G/", "0 A 0 0 10/0 G 0 16 5/"],
+            ["A 1/W 1/G/", "0 A 0 1 20/0 G 0 16 8/"],
+        ],
+    },
+    // Row 1 waits for 40. Row 0 comes at 20 for 40 too, so that the 3 ticks of row 1 count,
+    // whether it runs or finishes early; D − C is 16.
+    Moment {
+        input: "T 4 100 20/T 3 100 40/A 1/W 1/W 19/G/R 20/A 0/G/",
+        output: "0 M 0 1 2/0 B 0 0 13/0 B 0 1 33/0 A 0 1 40/0 G 0 16 20/20 R 0 0 0/\
+            20 A 0 0 40/20 G 0 1 3/",
+        ends: &[
+            ["R 3/W 1/G/", "23 R 0 0 1/23 G 0 16 13/"],
+            ["F/W 1/G/", "20 F 0 1 3/20 G 0 16 13/"],
+        ],
+    },
+    // It comes at 19 for 39, and they do not.
+    Moment {
+        input: "T 4 100 20/T 3 100 40/A 1/W 1/W 18/G/R 19/A 0/",
+        output: "0 M 0 1 2/0 B 0 0 13/0 B 0 1 33/0 A 0 1 40/0 G 0 16 19/19 R 0 0 0/19 A 0 0 39/",
+        ends: &[["W 1/G/F/W 1/G/", "19 G 0 1 3/19 F 0 1 3/19 G 0 16 16/"]],
+    },
+    // At 2 row 1 has one tick left, and that one counts.
+    Moment {
+        input: "T 4 100 20/T 3 100 10/A 1/G/R 2/A 0/G/R 1/W 1/G/",
+        output: "0 M 0 1 2/0 B 0 0 13/0 B 0 1 3/0 A 0 1 10/0 G 0 1 3/2 R 0 1 0/2 A 0 0 22/\
+            2 G 0 1 1/3 R 0 0 1/3 G 0 16 15/",
+        ends: &[["R 15/W 1/G/", "18 R 0 0 0/18 G 0 0 4/"]],
+    },
+    // Row 1 may come at once for 20, and no later than row 0 is due; or for 21.
+    Moment {
+        input: "T 1 100 20/T 2 50 20/A 0/W 1/G/",
+        output: "0 M 0 1 2/0 B 0 0 17/0 B 0 1 17/0 A 0 0 20/0 G 0 16 17/",
+        ends: &[["", ""]],
+    },
+    Moment {
+        input: "T 1 100 20/T 2 50 21/A 0/W 1/G/",
+        output: "0 M 0 1 2/0 B 0 0 17/0 B 0 1 18/0 A 0 0 20/0 G 0 16 19/",
+        ends: &[["", ""]],
+    },
+    // V is 19 − 3 × 2 and 3 − 1.
+    Moment {
+        input: "T 1 100 20/T 2 8 5/",
+        output: "0 M 0 1 2/0 B 0 0 13/0 B 0 1 2/",
+        ends: &[
+            // Row 1 may come for 5 and 13.
+            ["A 0/W 1/G/", "0 A 0 0 20/0 G 0 16 15/"],
+            // It has come and is over, and may come again at 8, for 13.
+            [
+                "A 1/G/F/A 0/W 1/G/",
+                "0 A 0 1 5/0 G 0 1 2/0 F 0 1 2/0 A 0 0 20/0 G 0 16 17/",
+            ],
+            // It has a tick left, and may come again for 13 and 21.
+            [
+                "A 1/G/R 1/A 0/G/R 1/W 1/G/",
+                "0 A 0 1 5/0 G 0 1 2/1 R 0 1 0/1 A 0 0 21/1 G 0 1 1/2 R 0 0 1/2 G 0 16 14/",
+            ],
+            // It could have come at 8, and may come at 9, for 14 and 22, but not for 29.
+            [
+                "A 1/G/R 2/G/R 7/A 0/W 1/G/",
+                "0 A 0 1 5/0 G 0 1 2/2 R 0 0 1/2 G 0 16 1000000/9 R 0 999993 0/9 A 0 0 29/\
+                    9 G 0 16 15/",
+            ],
+        ],
+    },
+    // Row 0 is brittle, and row 1 has 22 − 10. Row 2 cannot be due by 23, and V of row 1 is
+    // 0 for its sake alone.
+    Moment {
+        input: "T 10 40 10/T 1 40 23/T 12 40 24/A 0/A 1/G/R 10/A 2/W 1/",
+        output: "0 M 0 3 3/0 B 0 0 -13/0 B 0 1 0/0 B 0 2 1/0 A 0 0 10/0 A 0 1 23/0 G 0 0 10/\
+            10 R 0 0 1/10 A 0 2 34/",
+        ends: &[
+            ["G/", "10 G 0 2 12/"],
+            ["W 11/G/", "10 G 0 2 12/"],
+            ["W 12/G/", "10 G 0 2 1/"],
+        ],
+    },
+    // All of a tight table have none.
+    Moment {
+        input: "T 2 4 4/T 3 6 6/A 0/A 1/W 1/",
+        output: "0 M 0 2 2/0 B 0 0 -1/0 B 0 1 -1/0 A 0 0 4/0 A 0 1 6/",
+        ends: &[["G/", "0 G 0 0 2/"]],
     },
 ];

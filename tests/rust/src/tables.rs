@@ -194,6 +194,30 @@ pub fn close_rows(rng: &mut Rng) -> Vec<Row> {
     rows
 }
 
+/// A few rows, of which one is due when all could have run once, or a little later, and
+/// the others but one just before it: it counts them if they may come at once, but a few
+/// ticks later they are due after it. The one left is due as soon as it can be; without
+/// it some tables are loose.
+pub fn counting_rows(rng: &mut Rng) -> Vec<Row> {
+    let has_first = rng.chance(2, 3);
+    let count = rng.between(2, 5) + u32::from(has_first);
+    let longest = rng.pick(&[4, 12, 100]);
+    let runs: Vec<u32> = (0..count).map(|_| rng.between(1, longest)).collect();
+    let all: u32 = runs.iter().sum();
+    let last = all + rng.between(0, 3);
+    let mut rows = Vec::new();
+    for (place, run) in runs.iter().enumerate() {
+        let deadline = match place {
+            0 => last,
+            1 if has_first => run + rng.between(0, 3),
+            _ => last - rng.between(0, runs[0].min(4)),
+        };
+        let period = deadline.max(last) + rng.between(1, 2 * all);
+        rows.insert(rng.below(rows.len() + 1), row(*run, period, deadline));
+    }
+    rows
+}
+
 /// One short row and one long one that together fill the processor: the busy
 /// length comes near the horizon or passes it.
 pub fn long_busy_rows(rng: &mut Rng) -> Vec<Row> {

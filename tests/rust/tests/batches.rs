@@ -69,9 +69,9 @@ fn all_rows_arrive_in_list_order() {
     let expected = Session {
         clock: 7,
         slots: vec![
-            slot(107, 27, 4, 6),
-            slot(107, 37, 3, 16),
-            slot(107, 47, 2, 26),
+            slot(107, 27, 4, 16),
+            slot(107, 37, 3, 23),
+            slot(107, 47, 2, 31),
             slot(107, 57, 5, 36),
         ],
         ..fresh(&FOUR)
@@ -137,7 +137,7 @@ fn an_unknown_row_does_not_stop_those_after_it() {
         ]
     );
     let none = Slot::default();
-    let expected = [slot(100, 20, 4, 6), slot(100, 30, 3, 16), none, none];
+    let expected = [slot(100, 20, 4, 16), slot(100, 30, 3, 23), none, none];
     assert_eq!(session.slots, expected);
 }
 
@@ -151,9 +151,9 @@ fn a_row_that_comes_too_early_does_not_stop_those_after_it() {
         [(7, [1, 100]), (0, [0, 25]), (7, [3, 100]), (0, [2, 45])]
     );
     let expected = [
-        slot(105, 25, 4, 6),
+        slot(105, 25, 4, 16),
         slot(100, 30, 3, 11),
-        slot(105, 45, 2, 26),
+        slot(105, 45, 2, 31),
         slot(100, 50, 5, 31),
     ];
     assert_eq!(session.slots, expected);
@@ -190,7 +190,7 @@ fn a_repeated_row_is_too_early_by_its_own_arrival() {
         ]
     );
     let none = Slot::default();
-    let expected = [slot(107, 27, 4, 6), slot(107, 37, 3, 16), none, none];
+    let expected = [slot(107, 27, 4, 16), slot(107, 37, 3, 23), none, none];
     assert_eq!(session.slots, expected);
 }
 

@@ -3,7 +3,7 @@
 
 mod shared;
 
-use shared::{arrived, fresh, FOUR};
+use shared::{arrived, fresh, job, waiting, FOUR};
 use shuffle_model::calls::{candidates, draw, limit, perform, Answer, Call};
 use shuffle_model::rng::Rng;
 use shuffle_model::session::{Choice, Job, Session, CLOCK_END, IDLE};
@@ -220,9 +220,21 @@ fn the_head_is_run_for_lack_of_words_and_not_row_0() {
     assert_eq!(choose(&session, &[LAST, LAST]), ([1, 5], 2));
 }
 
+/// The rows of `FOUR` at 10, after 10 ticks of idle: row 0 has 6 left of its budget of
+/// 16, so that there are 6 lengths for idle.
+fn ten_later() -> Session {
+    let mut session = arrived(&FOUR);
+    assert_eq!(
+        perform(&mut session, Call::Choose(&[4, 9])).values,
+        [IDLE_SHOWN, 10]
+    );
+    perform(&mut session, Call::Advance(10));
+    session
+}
+
 #[test]
 fn a_span_goes_by_the_limit_of_its_lengths() {
-    let session = arrived(&FOUR);
+    let session = ten_later();
     // 6 lengths under idle. 4,294,967,291 is 6 × 715,827,881 + 5.
     let idle = |words: &[u32]| choose(&session, &[&[4], words].concat());
     assert_eq!(idle(&[4_294_967_290, 0]), ([IDLE_SHOWN, 5], 2));
@@ -259,7 +271,7 @@ fn a_span_of_most_lengths_passes_over_most_words() {
 
 #[test]
 fn a_span_that_lacks_words_is_the_longest() {
-    let session = arrived(&FOUR);
+    let session = ten_later();
     for passed in [0, 1, 2, 100] {
         let words = |first| [&[first], &vec![LAST; passed][..]].concat();
         assert_eq!(choose(&session, &words(1)), ([1, 3], passed + 1));
@@ -270,7 +282,7 @@ fn a_span_that_lacks_words_is_the_longest() {
 
 #[test]
 fn the_span_draws_from_what_the_pick_left() {
-    let session = arrived(&FOUR);
+    let session = ten_later();
     // Row 3 has 5 lengths, as there are 5 candidates.
     assert_eq!(choose(&session, &[LAST, 3, 1]), ([3, 2], 3));
     assert_eq!(choose(&session, &[LAST, 3, LAST, 1]), ([3, 2], 4));
@@ -300,8 +312,13 @@ fn the_span_draws_from_what_the_pick_left() {
 fn one_length_uses_any_word() {
     // Row 1 has one tick; and in the other table row 0 has a budget of 1.
     let short = arrived(&[[1, 100, 20], [1, 100, 30]]);
-    let spent = arrived(&[[9, 100, 20], [10, 100, 30]]);
-    assert_eq!(spent.job(0).map(|job| job.budget), Some(1));
+    let spent = waiting(
+        0,
+        &[
+            ([9, 100, 20], job(20, 9, 1)),
+            ([10, 100, 30], job(30, 10, 11)),
+        ],
+    );
     for session in [short, spent] {
         for word in [0, 1, 2, 4_294_967_294, LAST] {
             assert_eq!(choose(&session, &[1, word, LAST]), ([1, 1], 2));
@@ -351,7 +368,7 @@ fn a_refused_choice_uses_no_word() {
 #[test]
 fn a_very_long_list_is_gone_through_once() {
     let count = 1_000_000;
-    let session = arrived(&FOUR);
+    let session = ten_later();
     let mut words = vec![LAST; count];
     assert_eq!(choose(&session, &words), ([0, 4], count));
     words[0] = 4;
@@ -379,8 +396,8 @@ fn the_program_drops_all_words_used() {
     // The third word is row 1, the fourth the second of its 3 lengths.
     let pick = format!("{over}{over}W 1/W 1/");
     assert_eq!(last_line(&format!("{pick}G/")), "0 G 0 1 2");
-    // The next choice takes the next words: idle, and the third of 4 lengths,
-    // since 2 ticks of row 1 leave row 0 a budget of 4.
+    // The next choice takes the next words: idle, and the third of 14 lengths,
+    // since 2 ticks of row 1 leave row 0 a budget of 14.
     let left = format!("{pick}{over}W 4/W 2/G/R 2/G/");
     assert_eq!(last_line(&left), "2 G 0 16 3");
     // Row 0 runs to its end for lack of words, and none is left for row 1.
@@ -398,26 +415,27 @@ fn passed_over_words_make_room_in_the_queue() {
     assert_eq!(last_line(&format!("{full}G/")), "0 G 0 0 4");
     assert_eq!(last_line(&format!("{full}W 0/G/")), "0 ? 13 1033 0");
     // After the choice as many may wait again. Once row 0 is over the first is
-    // idle, the last of 4 candidates, and the second the last of its 16 lengths.
+    // idle, the last of 4 candidates, and no other decides between its 23 lengths.
     assert_eq!(last_line(&format!("{full}G/{full}R 4/")), "4 R 0 0 1");
     assert_eq!(last_line(&format!("{full}G/{full}W 0/")), "0 ? 13 2058 0");
-    assert_eq!(last_line(&format!("{full}G/{full}R 4/G/")), "4 G 0 16 16");
+    assert_eq!(last_line(&format!("{full}G/{full}R 4/G/")), "4 G 0 16 23");
 }
 
 #[test]
 fn the_listing_stays_true() {
     let (input, output) = listing();
     assert_eq!(run(input.as_bytes()), output.as_bytes());
-    // Each pick is between 3 candidates, and the first span between 3 lengths: a
-    // word that is passed over before them changes nothing. The second span is
-    // between 4, where every word decides.
-    let longer = ["W\t4\n", "W\t9\n", "W\t2\n", "W\t3\n"]
+    // Each pick is between 3 candidates, the first span between 3 lengths and the
+    // second between 7: a word that is passed over before them changes nothing. Nor does
+    // one before the last word, which the refused choice leaves.
+    let longer = ["W\t4\n", "W\t9\n", "W\t2\n", "W\t5\n", "W\t3\n"]
         .iter()
         .fold(input.clone(), |text, line| {
             text.replacen(line, &format!("W\t4294967295\n{line}"), 1)
         });
-    assert_eq!(longer.len(), input.len() + 4 * 13);
+    assert_eq!(longer.len(), input.len() + 5 * 13);
     assert_eq!(run(longer.as_bytes()), output.as_bytes());
-    let changed = input.replacen("W\t5\n", "W\t4294967295\nW\t5\n", 1);
+    // 4,294,967,291 is the last word that decides between 7.
+    let changed = input.replacen("W\t5\n", "W\t4294967291\nW\t5\n", 1);
     assert_ne!(run(changed.as_bytes()), output.as_bytes());
 }

@@ -44,28 +44,29 @@ fn listing_session() -> Session {
     arrived(&[[2, 10, 10], [3, 20, 15]])
 }
 
+/// The same where row 0 has 5 left of its budget of 8, so that idle has 5 lengths.
+fn spent_session() -> Session {
+    waiting(
+        0,
+        &[([2, 10, 10], job(10, 2, 5)), ([3, 20, 15], job(15, 3, 10))],
+    )
+}
+
 #[test]
 fn the_choices_of_the_listing_are_told() {
     let first = lines(&[
         "Waiting jobs: 2.",
-        "Row 0, due at 10, budget 5: candidate.",
-        "Row 1, due at 15, budget 8: candidate.",
+        "Row 0, due at 10, budget 8: candidate.",
+        "Row 1, due at 15, budget 10: candidate.",
         "Chosen: row 1, by word 4.",
         "Span 1: set by a word.",
     ]);
     let second = lines(&[
         "Waiting jobs: 2.",
-        "Row 0, due at 10, budget 4: candidate.",
-        "Row 1, due at 15, budget 8: candidate.",
+        "Row 0, due at 10, budget 7: candidate.",
+        "Row 1, due at 15, budget 10: candidate.",
         "Chosen: idle, by word 2.",
-        "Span 2: set by a word.",
-    ]);
-    let third = lines(&[
-        "Waiting jobs: 2.",
-        "Row 0, due at 10, budget 2: candidate.",
-        "Row 1, due at 15, budget 6: candidate.",
-        "Chosen: row 0, by word 3.",
-        "Span 2: its remaining ticks.",
+        "Span 6: set by a word.",
     ]);
     let mut session = listing_session();
     assert_eq!(told(&session, &[4, 9]), first);
@@ -74,7 +75,9 @@ fn the_choices_of_the_listing_are_told() {
     assert_eq!(told(&session, &[2, 5]), second);
     perform(&mut session, Call::Choose(&[2, 5]));
     perform(&mut session, Call::Advance(2));
-    assert_eq!(told(&session, &[3]), third);
+    // The third is refused, since 4 ticks are left of the second.
+    let refused = explain(&session, &[3]).expect_err("a choice is in force");
+    assert_eq!((refused.number, refused.values), (8, [4, 0]));
 
     // The program prints them after their lines `G`.
     let (input, output) = listing();
@@ -82,15 +85,11 @@ fn the_choices_of_the_listing_are_told() {
         .split_inclusive('\n')
         .map(|line| match line {
             "0\tG\t0\t1\t1\n" => format!("{line}{first}"),
-            "1\tG\t0\t16\t2\n" => format!("{line}{second}"),
-            "3\tG\t0\t0\t2\n" => format!("{line}{third}"),
+            "1\tG\t0\t16\t6\n" => format!("{line}{second}"),
             _ => line.to_string(),
         })
         .collect();
-    assert_eq!(
-        expected.len(),
-        output.len() + first.len() + second.len() + third.len()
-    );
+    assert_eq!(expected.len(), output.len() + first.len() + second.len());
     assert_eq!(run(input.as_bytes()), expected.into_bytes());
 }
 
@@ -177,13 +176,14 @@ fn a_tight_session_has_the_head_alone_and_no_brittle_deadline() {
 
 #[test]
 fn the_brittle_deadline_holds_jobs_back() {
-    // The specification's moment at clock 3: the next job of row 2 can arrive at 7.
+    // At 3 the next job of row 2 can arrive at 7. Row 0 has 6 less two ticks of row 2. Row 1
+    // has 19 less 2 and 2 of those that wait, 4 of row 0 for 20, and 3 of row 2 up to 22.
     let input = plain("T 4 10 10/T 1 20 20/T 1 5 5/T 2 12 12/A 0/A 3/G/R 2/A 2/G/R 1/W 1/G/A 1/G/");
     let output = String::from_utf8(run(input.as_bytes())).unwrap();
     let first = lines(&[
         "0\tG\t0\t0\t4",
         "Waiting jobs: 2.",
-        "Row 0, due at 10, budget 1: candidate.",
+        "Row 0, due at 10, budget 4: candidate.",
         "Row 3, due at 12, budget 0 (holds later jobs back): not a candidate.",
         "Brittle deadline 5: of the candidates only the first may be due later.",
         "Chosen: row 0, no word decided.",
@@ -192,22 +192,22 @@ fn the_brittle_deadline_holds_jobs_back() {
     ]);
     assert!(output.contains(&first), "{output}");
     let third = lines(&[
-        "3\tG\t0\t3\t1",
+        "3\tG\t0\t3\t2",
         "Waiting jobs: 2.",
-        "Row 0, due at 10, budget 1: candidate.",
+        "Row 0, due at 10, budget 4: candidate.",
         "Row 3, due at 12, budget 0 (holds later jobs back): candidate.",
         "Brittle deadline 12: of the candidates only the first may be due later.",
         "Chosen: row 3, by word 1.",
-        "Span 1: the most allowed, for lack of a word.",
+        "Span 2: the most allowed, for lack of a word.",
         "3\tA\t0\t1\t23",
     ]);
     assert!(output.contains(&third), "{output}");
     let last = lines(&[
         "3\tG\t0\t0\t2",
         "Waiting jobs: 3.",
-        "Row 0, due at 10, budget 1: candidate.",
+        "Row 0, due at 10, budget 4: candidate.",
         "Row 3, due at 12, budget 0 (holds later jobs back): candidate.",
-        "Row 1, due at 23, budget 3: not a candidate.",
+        "Row 1, due at 23, budget 8: not a candidate.",
         "Brittle deadline 12: of the candidates only the first may be due later.",
         "Chosen: row 0, no word decided.",
         "Span 2: its remaining ticks.",
@@ -274,7 +274,7 @@ fn decided(session: &Session, words: &[u32]) -> Decided {
 
 #[test]
 fn a_word_that_is_passed_over_never_decides() {
-    let session = listing_session();
+    let session = spent_session();
     let cases: [(&[u32], Decided); 12] = [
         (&[], (0, None, 2, Cause::Remaining, 0)),
         (&[LAST], (0, None, 2, Cause::Remaining, 1)),
@@ -709,10 +709,10 @@ fn parts_are_printed_line_by_line() {
         "J 1 31 4 1/J 2 38 0 1/J 0 45 9 0/B 52/C 1 0 0/S 3 1/"
     );
     let session = arrived(&FOUR);
-    let all = "J 0 20 6 1/J 1 30 16 1/J 2 40 26 1/J 3 50 36 1/";
+    let all = "J 0 20 16 1/J 1 30 23 1/J 2 40 31 1/J 3 50 36 1/";
     for (words, expected) in [
         (&[1, 1][..], "C 1 1 1/S 2 2/"),
-        (&[4, LAST], "C 16 1 4/S 6 3/"),
+        (&[4], "C 16 1 4/S 16 3/"),
         (&[0], "C 0 1 0/S 4 1/"),
         (&[], "C 0 0 0/S 4 1/"),
     ] {
@@ -754,18 +754,20 @@ fn explanations_count_by_what_they_tell() {
         sorts(&session, &[]),
         [
             "loose, by remaining ticks",
-            "of several candidates without a word"
+            "of several candidates without a word",
+            "of a budget above V"
         ]
     );
     assert_eq!(
-        sorts(&session, &[LAST, 5, LAST]),
+        sorts(&spent_session(), &[LAST, 5, LAST]),
         [
             "loose, for lack of a word",
             "with a word that decided",
             "with words passed over before the one that decided",
             "with words passed over for the span",
             "of idle by a word",
-            "of idle for lack of a word"
+            "of idle for lack of a word",
+            "of a budget above V"
         ]
     );
     assert_eq!(
@@ -782,7 +784,8 @@ fn explanations_count_by_what_they_tell() {
         [
             "mixed, by remaining ticks",
             "of the only candidate",
-            "of jobs that the brittle deadline alone holds back"
+            "of jobs that the brittle deadline alone holds back",
+            "of a budget above V"
         ]
     );
     // Row 3, due at 12, is held back by it alone too; its spent budget holds row 1 back as
@@ -805,7 +808,7 @@ fn too_few_explanations_are_named() {
     let mut tally = ExplanationTally::default();
     assert!(tally.gaps(Among::Inputs(0)).is_empty());
     let gaps = tally.gaps(Among::Inputs(1));
-    assert_eq!(gaps.len(), 27);
+    assert_eq!(gaps.len(), 28);
     assert_eq!(
         gaps[0],
         "too rare: 0 explanations are loose, by remaining ticks (fewer than one in 1 inputs)"
@@ -822,7 +825,7 @@ fn too_few_explanations_are_named() {
     assert!(text.starts_with(start), "{text}");
 
     let mut calls = ExplanationCalls::default();
-    assert_eq!(calls.gaps(1).len(), 27 + 6);
+    assert_eq!(calls.gaps(1).len(), 28 + 6);
     calls.add_refused(5, true);
     calls.add_refused(15, true);
     calls.add_refused(8, false);

@@ -13,26 +13,26 @@ fn later_jobs_gain_and_earlier_ones_do_not() {
     let mut session = arrived(&FOUR);
     assert_eq!(
         budgets(&session),
-        [Some(6), Some(16), Some(26), Some(36)],
-        "V of each"
+        [Some(16), Some(23), Some(31), Some(36)],
+        "D less C of each and of those before it"
     );
     // Word 1 of 5 candidates is row 1. It runs for one tick, which row 0 pays.
     accept(&mut session, Call::Choose(&[1, 2]));
     accept(&mut session, Call::Advance(1));
-    assert_eq!(budgets(&session)[0], Some(5));
-    // 2 of its 3 ticks are unused: 26 + 2 and 36 + 2, each gains all of them.
+    assert_eq!(budgets(&session)[0], Some(15));
+    // 2 of its 3 ticks are unused: 31 + 2 and 36 + 2, each gains all of them.
     assert_eq!(accept(&mut session, Call::Finish).values, [1, 2]);
-    assert_eq!(budgets(&session), [Some(5), None, Some(28), Some(38)]);
+    assert_eq!(budgets(&session), [Some(15), None, Some(33), Some(38)]);
     assert_eq!(session.choice, None);
     assert_eq!(session.clock, 1);
 }
 
 #[test]
 fn the_last_in_order_gives_to_nobody() {
-    // Row 3 is for 50, the others are for 20, 30 and 40 and keep their V.
+    // Row 3 is for 50, the others are for 20, 30 and 40 and keep what they have.
     let mut session = arrived(&FOUR);
     assert_eq!(finish(&mut session, 3, 5), [3, 5]);
-    assert_eq!(budgets(&session), [Some(6), Some(16), Some(26), None]);
+    assert_eq!(budgets(&session), [Some(16), Some(23), Some(31), None]);
 }
 
 #[test]
@@ -97,18 +97,18 @@ fn the_gain_is_the_remaining_ticks_and_not_the_span() {
         accept(&mut session, Call::Choose(&[1, 0]));
         accept(&mut session, Call::Advance(1));
         assert_eq!(finish(&mut session, 1, left), [1, 2]);
-        assert_eq!(budgets(&session), [Some(5), None, Some(28), Some(38)]);
+        assert_eq!(budgets(&session), [Some(15), None, Some(33), Some(38)]);
     }
 }
 
 #[test]
 fn a_job_that_runs_to_its_end_gives_nothing() {
-    // Row 0 is the head and runs for all of its 4 ticks: the others keep V.
+    // Row 0 is the head and runs for all of its 4 ticks: the others keep what they have.
     let mut session = arrived(&FOUR);
     accept(&mut session, Call::Choose(&[]));
     let answer = accept(&mut session, Call::Advance(4));
     assert_eq!(answer.values, [0, 1]);
-    assert_eq!(budgets(&session), [None, Some(16), Some(26), Some(36)]);
+    assert_eq!(budgets(&session), [None, Some(23), Some(31), Some(36)]);
 }
 
 #[test]
@@ -125,23 +125,24 @@ fn a_refused_finish_gives_nothing() {
 }
 
 #[test]
-fn a_job_that_arrives_after_the_finish_has_v() {
+fn a_job_that_arrives_after_the_finish_gains_nothing() {
     // Row 0 gives 4 to row 3, before row 2 is there.
     let mut session = fresh(&FOUR);
     accept(&mut session, Call::Arrive(0));
     accept(&mut session, Call::Arrive(3));
     finish(&mut session, 0, 4);
     accept(&mut session, Call::Arrive(2));
-    // 36 + 4, and V of row 2.
-    assert_eq!(budgets(&session), [None, None, Some(26), Some(40)]);
+    // 36 + 4; and 38 less the 3 ticks of row 1, which may still come for 30, while row 0
+    // may not come again before 100.
+    assert_eq!(budgets(&session), [None, None, Some(35), Some(40)]);
 }
 
 #[test]
-fn the_next_job_of_a_row_starts_from_v_again() {
-    // Row 1 has V 16 and gains 4.
+fn the_next_job_of_a_row_does_not_keep_the_gain() {
+    // Row 1 has 23 and gains 4.
     let mut session = arrived(&FOUR);
     finish(&mut session, 0, 4);
-    assert_eq!(budgets(&session)[1], Some(20));
+    assert_eq!(budgets(&session)[1], Some(27));
     // Rows 1 to 3 run to their ends, then idle up to 100.
     for _ in 1..4 {
         let ticks = accept(&mut session, Call::Choose(&[])).values[1];
@@ -150,8 +151,9 @@ fn the_next_job_of_a_row_starts_from_v_again() {
     accept(&mut session, Call::Choose(&[]));
     accept(&mut session, Call::Advance(90));
     assert_eq!(session.clock, 100);
+    // Row 0 may come at 100 too, for 120, before 130.
     accept(&mut session, Call::Arrive(1));
-    assert_eq!(budgets(&session), [None, Some(16), None, None]);
+    assert_eq!(budgets(&session), [None, Some(23), None, None]);
 }
 
 #[test]
@@ -159,11 +161,12 @@ fn finishes_add_up_and_all_of_them_reach_the_limit_exactly() {
     let mut session = arrived(&FOUR);
     // 4 ticks of row 0, then 3 of row 1, then 2 of row 2.
     finish(&mut session, 0, 4);
-    assert_eq!(budgets(&session), [None, Some(20), Some(30), Some(40)]);
+    assert_eq!(budgets(&session), [None, Some(27), Some(35), Some(40)]);
     finish(&mut session, 1, 3);
-    assert_eq!(budgets(&session), [None, None, Some(33), Some(43)]);
+    assert_eq!(budgets(&session), [None, None, Some(38), Some(43)]);
     finish(&mut session, 2, 2);
-    // 36 + 4 + 3 + 2 is D − C of row 3: all that V kept back for the others.
+    // 36 + 4 + 3 + 2 is D − C of row 3: all that was kept back for the others. So are
+    // 23 + 4 and 31 + 4 + 3.
     assert_eq!(budgets(&session), [None, None, None, Some(45)]);
     let answer = accept(&mut session, Call::Choose(&[1]));
     assert_eq!(answer.values, [u64::from(IDLE), 45]);
@@ -177,7 +180,7 @@ fn finishes_add_up_and_all_of_them_reach_the_limit_exactly() {
 
 #[test]
 fn a_row_that_comes_again_gives_again() {
-    // V of row 1 is 20 − 3 − 2 × 4 = 9. Row 0 is for 9 and gives it 4.
+    // Row 1 has 20 − 3 − 2 × 4 = 9, for row 0 at 9 and at 19. Row 0 gives it 4.
     let mut session = arrived(&[[4, 10, 9], [3, 20, 20]]);
     finish(&mut session, 0, 4);
     assert_eq!(budgets(&session), [None, Some(13)]);
@@ -265,9 +268,12 @@ fn a_mixed_session_gives_to_rows_of_v_0_and_above() {
     let session = fresh(&rows);
     let v: Vec<i64> = (0..3).map(|row| budget(&session.rows, row)).collect();
     assert_eq!((session.kind, v), (Kind::Mixed, vec![-3, 0, 8]));
+    // Row 1, for 10, has 7 less two jobs of row 0, for 4 and 9; row 2, for 30, has 29
+    // less six of row 0 and one of row 1.
     let mut session = arrived(&rows);
+    assert_eq!(budgets(&session), [Some(0), Some(1), Some(8)]);
     finish(&mut session, 0, 3);
-    assert_eq!(budgets(&session), [None, Some(3), Some(11)]);
+    assert_eq!(budgets(&session), [None, Some(4), Some(11)]);
 }
 
 #[test]
@@ -387,7 +393,7 @@ fn the_longest_budget_fits_a_span() {
 
 #[test]
 fn a_choice_may_last_as_long_as_a_budget_above_v() {
-    // Row 0 has V 6 and D − C 16; the budgets of the others are 16 and more.
+    // Row 0 has V 6 and D − C 16; the budgets of the others are 23 and more.
     let is_sound = |left, budget| {
         let mut session = arrived(&FOUR);
         session.slots[0].job = session.slots[0].job.map(|job| Job { budget, ..job });

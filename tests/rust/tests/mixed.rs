@@ -12,10 +12,13 @@ use shuffle_model::tables::long_busy_rows;
 
 /// Row 0 is brittle. V is 12 − 10 − 4 − 30 = −32, 50 − 4 − 10 − 30 = 6 and
 /// 112 − 30 − 2 × 10 − 2 × 4 = 54. D − C is 2, 46 and 82. Once a job of row 0 has
-/// arrived at 0, the next one is due at 100 + 12 or later.
+/// arrived at 0, the next one is due at 100 + 12 or later. If all arrive at 0, row 1 has
+/// 46 − 10 = 36, since row 2 is due later, and row 2 has 82 − 2 × 10 − 4 = 58, since
+/// the second job of row 1 is.
 const THREE: [[u32; 3]; 3] = [[10, 100, 12], [4, 100, 50], [30, 200, 112]];
 
-/// Row 0 is brittle: V is 19 less the sum of all C, 21, so −2; and then 1, 1, 29.
+/// Row 0 is brittle: V is 19 less the sum of all C, 21, so −2; and then 1, 1, 29. If all
+/// arrive on one tick, rows 1 and 2 have a tick more, since row 3 is due later.
 const CLOSE: [[u32; 3]; 4] = [[10, 100, 19], [5, 100, 22], [5, 100, 22], [1, 100, 50]];
 
 fn kind_of(rows: &[[u32; 3]]) -> Kind {
@@ -82,13 +85,13 @@ fn every_row_is_brittle_where_there_is_no_busy_length() {
 }
 
 #[test]
-fn brittle_rows_arrive_with_0_and_others_with_v() {
+fn brittle_rows_arrive_with_0_and_others_with_what_is_left() {
     let session = arrived(&THREE);
-    assert_eq!(budgets(&session), [Some(0), Some(6), Some(54)]);
+    assert_eq!(budgets(&session), [Some(0), Some(36), Some(58)]);
     assert!(session.is_sound());
     assert_eq!(
         budgets(&arrived(&CLOSE)),
-        [Some(0), Some(1), Some(1), Some(29)]
+        [Some(0), Some(2), Some(2), Some(29)]
     );
     // V of 0, and −1.
     assert_eq!(
@@ -238,6 +241,8 @@ fn a_choice_before_the_head_is_drawn_as_ever() {
     let answer = accept(&mut session, Call::Choose(&[1, 1]));
     assert_eq!((answer.values, answer.words_used), ([0, 10], 0));
     accept(&mut session, Call::Advance(10));
+    // Of its budget row 1 has 6 left.
+    session.slots[1].job = job(50, 4, 6);
     assert_eq!(candidates(&session), [1, 2]);
     for (words, values, used) in [
         (&[][..], [1, 4], 0),
@@ -253,7 +258,7 @@ fn a_choice_before_the_head_is_drawn_as_ever() {
     // Row 1 pays for it.
     accept(&mut session, Call::Choose(&[1, 3]));
     accept(&mut session, Call::Advance(4));
-    assert_eq!(budgets(&session), [None, Some(2), Some(54)]);
+    assert_eq!(budgets(&session), [None, Some(2), Some(58)]);
     // 2 ticks more, and it cannot wait any longer.
     accept(&mut session, Call::Choose(&[1]));
     accept(&mut session, Call::Advance(2));
@@ -306,10 +311,11 @@ fn idle_is_no_candidate_while_a_job_waits() {
 
 #[test]
 fn unused_time_goes_to_rows_that_are_not_brittle() {
-    // The brittle head gives 10 to both.
+    // The brittle head gives 10 to both. Row 1 has 6 left of its budget.
     let mut session = arrived(&THREE);
+    session.slots[1].job = job(50, 4, 6);
     assert_eq!(finish(&mut session, 0, 10), [0, 10]);
-    assert_eq!(budgets(&session), [None, Some(16), Some(64)]);
+    assert_eq!(budgets(&session), [None, Some(16), Some(68)]);
     // Row 2 runs before row 1 for as long as that can wait now.
     let answer = accept(&mut session, Call::Choose(&[1]));
     assert_eq!(answer.values, [2, 16]);
@@ -348,16 +354,17 @@ fn a_gain_ends_at_d_less_c() {
 
 #[test]
 fn a_row_of_v_0_gains_and_can_wait_then() {
-    // V of row 1 is 44 − 4 − 10 − 30 = 0.
+    // V of row 1 is 44 − 4 − 10 − 30 = 0, and it has nothing left of its budget.
     let rows = [[10, 100, 12], [4, 100, 44], [30, 200, 112]];
     assert_eq!(v_of(&rows), [-32, 0, 54]);
     let mut session = arrived(&rows);
+    session.slots[1].job = job(44, 4, 0);
     let mut without = session.clone();
     accept(&mut without, Call::Choose(&[]));
     accept(&mut without, Call::Advance(10));
     assert_eq!(candidates(&without), [1]);
     finish(&mut session, 0, 10);
-    assert_eq!(budgets(&session), [None, Some(10), Some(64)]);
+    assert_eq!(budgets(&session), [None, Some(10), Some(68)]);
     assert_eq!(candidates(&session), [1, 2]);
     assert_eq!(accept(&mut session, Call::Choose(&[1])).values, [2, 10]);
 }
@@ -487,9 +494,10 @@ fn the_second_table_of_the_specification_is_shuffled() {
         accept(&mut session, Call::Advance(ticks));
     }
     assert_eq!(session.clock, 3);
-    // Row 0 is for 13, row 1 for 23: later than 10.
+    // Row 0 is for 13, row 1 for 23: later than 10. Row 0 has 6 less a tick of row 2. Row
+    // 1 has 19 less two jobs of row 0, for 13 and 23, and three of row 2, for 10, 15, 20.
     accept(&mut session, Call::Arrive(0));
     accept(&mut session, Call::Arrive(1));
-    assert_eq!(budgets(&session), [Some(1), Some(3), None, None]);
+    assert_eq!(budgets(&session), [Some(5), Some(8), None, None]);
     assert_eq!(candidates(&session), [0]);
 }

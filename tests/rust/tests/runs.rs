@@ -1,5 +1,6 @@
 //! Random lists of calls against the specification's ledger.
 
+use shuffle_model::arrivals::ArrivalCounts;
 use shuffle_model::draws::Draws;
 use shuffle_model::driver::Driver;
 use shuffle_model::gifts::Gifts;
@@ -9,8 +10,8 @@ use shuffle_model::runs::{random_command, Style};
 use shuffle_model::session::{Session, IDLE};
 use shuffle_model::table::{budget, Row};
 use shuffle_model::tables::{
-    admitted, full_rows, light_rows, part_brittle_rows, roomy_rows, small_rows, staggered_rows,
-    RowMaker,
+    admitted, counting_rows, full_rows, light_rows, part_brittle_rows, roomy_rows, small_rows,
+    staggered_rows, RowMaker,
 };
 use shuffle_model::text::{Command, Outcome};
 use shuffle_model::ties::Ties;
@@ -119,6 +120,24 @@ fn check_gains(before: &Session, after: &Session, [row, unused]: [u64; 2]) {
     }
 }
 
+/// After an accepted arrival: its job has no budget if its row is brittle, and otherwise
+/// at least V.
+fn check_arrival(before: &Session, after: &Session, row: u32) {
+    let v = budget(&before.rows, row as usize);
+    let job = after.job(row).expect("a job that arrived waits");
+    let expected = if v < 0 { 0 } else { before.slack(row as usize) };
+    assert!(expected >= v.max(0), "{before:?}");
+    assert_eq!(job.budget, expected, "{before:?}");
+}
+
+fn check_accepted(command: Command, before: &Session, after: &Session, values: [u64; 2]) {
+    match command {
+        Command::Arrive(row) => check_arrival(before, after, row),
+        Command::Finish => check_gains(before, after, values),
+        _ => {}
+    }
+}
+
 /// What a run reached.
 #[derive(Default)]
 struct Reached {
@@ -126,6 +145,17 @@ struct Reached {
     gifts: Gifts,
     draws: Draws,
     mixed: Mixed,
+    arrivals: ArrivalCounts,
+    /// A job waits that has spent its budget, though its row is not brittle.
+    is_spent: bool,
+}
+
+fn has_spent_job(session: &Session) -> bool {
+    let mut rows = 0..session.rows.len();
+    rows.any(|row| {
+        let job = session.slots[row].job;
+        job.is_some_and(|job| job.budget == 0) && !session.is_brittle(row)
+    })
 }
 
 /// Runs random calls and checks ledger and session after each.
@@ -139,15 +169,17 @@ fn check_run(rng: &mut Rng, rows: &[Row], style: Style, steps: usize) -> Reached
         reached.gifts.watch(&driver.machine, command);
         reached.draws.watch(&driver.machine, command);
         reached.mixed.watch(&driver.machine, command);
+        if let Command::Arrive(row) = command {
+            let session = &driver.machine.session;
+            reached.arrivals.add(session, u64::from(row));
+        }
         let before = driver.machine.session.clone();
         if let Outcome::Answered(_, answer) = driver.push(command) {
             if answer.number == 0 {
                 ledger.enter(command, answer.values);
+                check_accepted(command, &before, &driver.machine.session, answer.values);
             } else {
                 assert_eq!(driver.machine.session, before, "{command:?}");
-            }
-            if answer.number == 0 && command == Command::Finish {
-                check_gains(&before, &driver.machine.session, answer.values);
             }
         }
         let text = String::from_utf8_lossy(&driver.text);
@@ -155,6 +187,7 @@ fn check_run(rng: &mut Rng, rows: &[Row], style: Style, steps: usize) -> Reached
         assert!(driver.machine.session.is_sound(), "{text}");
         assert_eq!(driver.machine.session.in_order(), ledger.order(), "{text}");
         assert!(ledger.no_job_is_late(), "{text}");
+        reached.is_spent |= has_spent_job(&driver.machine.session);
     }
     reached
 }
@@ -225,6 +258,20 @@ fn no_job_is_late_where_some_rows_are_brittle() {
         let taken = taken.count();
         assert!(taken > 40, "{taken} of 300 run another than the head");
     }
+}
+
+#[test]
+fn no_job_is_late_where_jobs_come_later_than_others_counted_on() {
+    let runs = check_runs(counting_rows, Style::counting, 1_000);
+    let later = runs.iter().filter(|run| {
+        run.arrivals
+            .refuted()
+            .contains(&"jobs to come from the clock on")
+    });
+    let later = later.count();
+    assert!(later > 500, "{later} of 1000 count from after the clock");
+    let spent = runs.iter().filter(|run| run.is_spent).count();
+    assert!(spent > 300, "{spent} of 1000 spend a budget");
 }
 
 #[test]

@@ -3,7 +3,7 @@
 use shuffle_model::calls::candidates;
 use shuffle_model::driver::table_text;
 use shuffle_model::session::{start, Job, Session, Slot, IDLE};
-use shuffle_model::specification::{draws, gifts, listing, mixed, plain, ties, EXAMPLES};
+use shuffle_model::specification::{arrivals, draws, gifts, listing, mixed, plain, ties, EXAMPLES};
 use shuffle_model::table::{busy_length, demand, opinion, overloads_by_scan, Refusal, Row};
 use shuffle_model::text::run;
 
@@ -42,6 +42,11 @@ fn every_candidate_is_equally_likely() {
 #[test]
 fn tables_are_part_loose() {
     check_outputs(mixed());
+}
+
+#[test]
+fn budgets_are_taken_on_arrival() {
+    check_outputs(arrivals());
 }
 
 #[test]

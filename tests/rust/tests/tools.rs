@@ -1,5 +1,6 @@
 //! The parts that the comparing tools rest on.
 
+use shuffle_model::arrivals::{ArrivalCounts, ArrivalTally, Arrivals};
 use shuffle_model::batches::{Batch, BatchTally};
 use shuffle_model::calls::{candidates, limit, perform, Call};
 use shuffle_model::draws::{DrawTally, Drawn, DrawnChoices, Draws};
@@ -13,8 +14,8 @@ use shuffle_model::rng::Rng;
 use shuffle_model::session::{start, Choice, Job, Session, IDLE};
 use shuffle_model::sessions::sound_session;
 use shuffle_model::shrink::shrink;
-use shuffle_model::specification::{draws, gifts, listing, mixed, plain, ties};
-use shuffle_model::table::{Kind, Row, ROW_LIMIT};
+use shuffle_model::specification::{arrivals, draws, gifts, listing, mixed, plain, ties};
+use shuffle_model::table::{budget, Kind, Row, ROW_LIMIT};
 use shuffle_model::tally::{Among, Tally};
 use shuffle_model::text::{run, run_watched, INPUT_LIMIT};
 use shuffle_model::ties::{TieTally, TiedChoices, Ties};
@@ -60,7 +61,7 @@ fn gaps_name_what_is_missing_and_what_is_impossible() {
     assert_eq!(tally.lines(), 13);
     assert_eq!(
         tally.to_string(),
-        "M 0:1; B 0:2; A 0:2 7:1; G 0:3; R 0:3; F 0:1; ?"
+        "M 0:1; B 0:2; A 0:2 7:1; G 0:2 8:1; R 0:3; F 11:1; ?"
     );
     let gaps = tally.gaps();
     assert!(gaps.contains(&"M 4 was never reached".to_string()));
@@ -125,16 +126,18 @@ fn ties_count_where_arrival_decides_against_the_row_number() {
 
 #[test]
 fn watching_changes_no_output() {
-    for (input, output) in [ties(), gifts(), draws(), mixed()].into_iter().flatten() {
+    let moments = [ties(), gifts(), draws(), mixed(), arrivals()];
+    for (input, output) in moments.into_iter().flatten() {
         assert_eq!(run(input.as_bytes()), output.as_bytes());
         let (mut ties, mut gifts) = (Ties::default(), Gifts::default());
         let mut draws = Draws::default();
-        let mut mixed = Mixed::default();
+        let (mut mixed, mut arrivals) = (Mixed::default(), Arrivals::default());
         let watched = run_watched(input.as_bytes(), |machine, command| {
             ties.watch(machine, command);
             gifts.watch(machine, command);
             draws.watch(machine, command);
             mixed.watch(machine, command);
+            arrivals.watch(machine, command);
         });
         assert_eq!(watched, output.as_bytes());
     }
@@ -199,7 +202,7 @@ fn gifts_of(input: &str) -> ([bool; 3], [bool; 3]) {
 
 #[test]
 fn gifts_count_where_a_finish_gives() {
-    // Row 0 gives 4 ticks to row 1, whose V is 23.
+    // Row 0 gives 4 ticks to row 1, which has 23.
     let chosen = "T 4 100 20/T 3 100 30/A 0/A 1/G/";
     let go_on = |end: &str| gifts_of(&format!("{chosen}{end}"));
     for end in ["", "R 4/G/F/", "R 1/G/W 1/", "R 5/A 0/x/F/"] {
@@ -443,8 +446,8 @@ fn draw_sorts(session: &Session, words: &[u32]) -> Vec<usize> {
 
 #[test]
 fn choices_count_by_their_draws() {
-    // Between 5 candidates, and 3 lengths of row 1, 2 of row 2, 6 of idle.
-    let rows = [[4, 100, 20], [3, 100, 30], [2, 100, 40], [5, 100, 50]];
+    // Between 5 candidates, and 3 lengths of row 1, 2 of row 2, 14 of idle.
+    let rows = [[4, 100, 18], [3, 100, 30], [2, 100, 40], [5, 100, 50]];
     let session = arrived(&rows);
     let sorts = |words: &[u32]| draw_sorts(&session, words);
     let last = u32::MAX;
@@ -516,8 +519,8 @@ fn draws_of(input: &str) -> (bool, bool) {
 
 #[test]
 fn draws_count_where_a_word_is_passed_over() {
-    // Five candidates, and 6 lengths of idle.
-    let start = "T 4 100 20/T 3 100 30/T 2 100 40/T 5 100 50/A 0/A 1/A 2/A 3/";
+    // Five candidates, and 14 lengths of idle.
+    let start = "T 4 100 18/T 3 100 30/T 2 100 40/T 5 100 50/A 0/A 1/A 2/A 3/";
     let go_on = |end: &str| draws_of(&format!("{start}{end}"));
     for end in [
         "",
@@ -529,7 +532,7 @@ fn draws_count_where_a_word_is_passed_over() {
         assert_eq!(go_on(end), (false, false), "{end}");
     }
     // 4294967295 is 5 × 858993459 and so the head by its remainder; 4294967292 is
-    // a multiple of 6, and so the first length.
+    // a multiple of 14, and so the first length.
     for end in ["W 4294967295/G/", "W 4/W 4294967292/W 0/G/"] {
         assert_eq!(go_on(end), (true, false), "{end}");
     }
@@ -607,19 +610,19 @@ fn sound_sessions_hold_every_budget_up_to_its_limit() {
     for _ in 0..2_000 {
         let session = sound_session(&mut rng);
         for row in 0..session.rows.len() {
-            let v = session.arrival_budget(row);
+            let v = budget(&session.rows, row);
             let limit = session.rows[row].spare();
             let Some(job) = session.slots[row].job.filter(|_| 1 < v && v + 2 < limit) else {
                 continue;
             };
-            let budget = job.budget;
+            let left = job.budget;
             let places = [
-                budget == 0,
-                0 < budget && budget < v,
-                budget == v,
-                v < budget && budget < limit,
-                budget == limit,
-                budget == limit - 1,
+                left == 0,
+                0 < left && left < v,
+                left == v,
+                v < left && left < limit,
+                left == limit,
+                left == limit - 1,
             ];
             for (seen, is_there) in seen.iter_mut().zip(places) {
                 *seen += u32::from(is_there);
@@ -968,11 +971,14 @@ fn inputs_of_mixed_tables_count_by_what_they_show() {
     };
     let start = "T 10 100 12/T 4 100 50/T 30 200 112/A 0/A 1/A 2/";
     let go_on = |end: &str| shown(&format!("{start}{end}"));
-    // By word 1 row 2 runs for as long as row 1 can wait: it shows the gift. With a
-    // budget of 1 row 0 would not be alone at the first choice.
-    assert_eq!(go_on("G/F/W 1/G/"), [true, false, false]);
-    assert_eq!(go_on("G/F/W 1/W 3/G/"), [false, false, false]);
+    // Row 1 can wait for all of row 2 without the gift. With a budget of 1 row 0 would
+    // not be alone at the first choice.
+    assert_eq!(go_on("G/F/W 1/G/"), [false, false, false]);
     assert_eq!(go_on("W 1/W 1/G/"), [false, false, true]);
+    // Row 1 arrives with nothing, and row 2 runs for the tick that it gains.
+    let gift = "T 10 40 10/T 1 40 23/T 12 40 22/A 0/A 1/G/R 9/F/A 2/";
+    assert_eq!(shown(&format!("{gift}W 1/G/")), [true, false, false]);
+    assert_eq!(shown(&format!("{gift}G/")), [false, false, false]);
     // Row 0 comes behind row 1, which leaves it nothing. Row 3 would run before it.
     let close = "T 10 100 19/T 5 100 22/T 5 100 22/T 1 100 50/A 1/A 3/G/R 4/A 0/G/F/W 1/G/";
     assert!(shown(close)[1]);
@@ -1098,4 +1104,210 @@ fn sound_sessions_reach_every_mixed_choice() {
         }
     }
     assert!(calls.gaps(Among::Calls(20_000)).is_empty(), "{calls}");
+}
+
+/// The sorts that the next arrival of a row is of, and the wrong rules by which it would
+/// have another budget.
+fn arrival_sorts(session: &Session, row: u64) -> [Vec<&'static str>; 2] {
+    assert!(session.is_sound(), "{session:?}");
+    let mut counts = ArrivalCounts::default();
+    counts.add(session, row);
+    [counts.reached(), counts.refuted()]
+}
+
+/// At 40, where row 0 may arrive for 60, with D − C 19. A job of row 1 waits for `due`, if
+/// that is not 0, and the next one may come at `next`. V of row 0 is 13.
+fn before_arrival(due: u64, left: u64, next: u64) -> Session {
+    let mut session = start(&[1, 100, 20, 2, 8, 5]).unwrap();
+    session.clock = 40;
+    let job = Job {
+        due,
+        left,
+        budget: 0,
+    };
+    session.slots[1].job = Some(job).filter(|_| due > 0);
+    session.slots[1].next = next;
+    session
+}
+
+const MORE: &str = "have more than V";
+const CLOCK_ON: &str = "count a row from the clock that could come before";
+const AFTER: &str = "count a row from after the clock";
+const TWO: &str = "count several jobs to come of a row";
+const JUST: &str = "count one to come for their deadline";
+const LATER_ONE: &str = "leave out one to come a tick later";
+const RULES: [&str; 4] = [
+    "V on arrival",
+    "D − C",
+    "waiting jobs alone",
+    "one job to come of a row",
+];
+
+#[test]
+fn arrivals_count_by_the_jobs_to_come() {
+    let sorts = |next| arrival_sorts(&before_arrival(0, 0, next), 0);
+    // For 45 and 53, and a tick after 60.
+    assert_eq!(sorts(40)[0], [MORE, TWO, LATER_ONE]);
+    assert_eq!(sorts(40)[1], RULES);
+    // From 39 on it would also be for 60.
+    assert_eq!(sorts(39)[0], [MORE, CLOCK_ON, TWO, LATER_ONE]);
+    assert_eq!(
+        sorts(39)[1],
+        [
+            RULES[0],
+            RULES[1],
+            RULES[2],
+            "jobs to come from before it",
+            RULES[3]
+        ]
+    );
+    // For 46 and 54; for 52 and 60; for 53 alone.
+    assert_eq!(sorts(41)[0], [MORE, AFTER, TWO]);
+    assert_eq!(sorts(47)[0], [MORE, AFTER, TWO, JUST]);
+    assert!(sorts(47)[1].contains(&"jobs to come due earlier"));
+    assert_eq!(sorts(48)[0], [MORE, AFTER, LATER_ONE]);
+    assert_eq!(
+        sorts(48)[1],
+        [
+            RULES[0],
+            RULES[1],
+            RULES[2],
+            "jobs to come from the clock on"
+        ]
+    );
+}
+
+#[test]
+fn arrivals_count_by_the_waiting_jobs() {
+    // It waits for 43 with a tick left, and may come again for 51 and 59.
+    let [sorts, wrong] = arrival_sorts(&before_arrival(43, 1, 46), 0);
+    let waits = ["count a waiting job", "count one that has run"];
+    assert_eq!(sorts, [MORE, waits[0], waits[1], AFTER, TWO]);
+    for rule in ["jobs to come alone", "C of waiting jobs"] {
+        assert!(wrong.contains(&rule), "{wrong:?}");
+    }
+    // With two ticks left.
+    let [sorts, wrong] = arrival_sorts(&before_arrival(43, 2, 46), 0);
+    assert_eq!(sorts, ["have V", waits[0], AFTER, TWO]);
+    assert!(!wrong.contains(&"V on arrival"));
+    // Row 1, for 45, while row 0, which has D 20, waits until then, or for longer.
+    let second = |due| {
+        let mut session = before_arrival(0, 0, 40);
+        session.slots[0].next = due + 80;
+        session.slots[0].job = Some(Job {
+            due,
+            left: 1,
+            budget: 0,
+        });
+        arrival_sorts(&session, 1)
+    };
+    let none = "count no job to come of a row";
+    let [sorts, wrong] = second(45);
+    let just = "count one due at their deadline";
+    assert_eq!(sorts, ["have V", waits[0], just, none]);
+    assert!(wrong.contains(&"waiting jobs due earlier"));
+    let [sorts, wrong] = second(46);
+    let later = ["leave out one due a tick later", "leave out one due later"];
+    assert_eq!(sorts, [MORE, later[0], later[1], none]);
+    assert_eq!(wrong, ["V on arrival", "all waiting jobs"]);
+    assert_eq!(second(47)[0], [MORE, later[1], none]);
+}
+
+#[test]
+fn arrivals_count_where_a_row_is_brittle() {
+    let rows = [[10, 100, 12], [4, 100, 50], [30, 200, 112]];
+    let session = start(&rows.concat()).unwrap();
+    let [sorts, wrong] = arrival_sorts(&session, 1);
+    assert!(sorts.ends_with(&["are of a mixed session", "count a brittle row there"]));
+    assert!(wrong.contains(&"rows that are not brittle"));
+    // Of a brittle row, too early, of no row.
+    let mut early = session.clone();
+    early.slots[1].next = 1;
+    for (session, row) in [
+        (&session, 0),
+        (&early, 1),
+        (&session, 3),
+        (&session, u64::MAX),
+    ] {
+        let [sorts, wrong] = arrival_sorts(session, row);
+        assert!(sorts.is_empty() && wrong.is_empty(), "{row}");
+    }
+}
+
+/// The wrong rules by which an answer to an input in the form of the listing would be
+/// another one.
+fn shown_by(input: &str) -> Vec<&'static str> {
+    let mut arrivals = Arrivals::default();
+    let input = plain(input).into_bytes();
+    let output = run_watched(&input, |machine, command| arrivals.watch(machine, command));
+    arrivals.compare(&input, &output);
+    assert_eq!(
+        arrivals.is_shown(),
+        arrivals.shown().contains(&"V on arrival")
+    );
+    arrivals.shown()
+}
+
+#[test]
+fn inputs_count_by_the_budgets_that_they_show() {
+    let start = "T 1 100 20/T 2 8 5/A 0/";
+    assert!(shown_by(start).is_empty());
+    assert!(shown_by(&format!("{start}G/R 1/")).is_empty());
+    // Idle for 15 ticks, since two jobs of row 1 count.
+    assert_eq!(shown_by(&format!("{start}W 1/G/")), RULES);
+    // A word below all of these lengths shows nothing.
+    assert!(shown_by(&format!("{start}W 1/W 3/G/")).is_empty());
+    // The listing.
+    let [v, whole, ..] = RULES;
+    let (listing, _) = listing();
+    let lines = listing.replace('\n', "/").replace('\t', " ");
+    assert!(shown_by(&lines).contains(&v));
+    // Row 1 waits until row 0 is due.
+    let met = "T 4 100 20/T 3 100 40/A 1/W 1/W 19/G/R 20/A 0/G/R 3/W 1/G/";
+    let shown = shown_by(met);
+    for rule in [whole, "jobs to come alone", "waiting jobs due earlier"] {
+        assert!(shown.contains(&rule), "{shown:?}");
+    }
+    assert!(!shown.contains(&v));
+}
+
+#[test]
+fn too_few_arrivals_are_named() {
+    let mut tally = ArrivalTally::default();
+    assert!(tally.gaps().is_empty());
+    let mut half = ArrivalTally::default();
+    half.add(&Arrivals::default());
+    tally.merge(half);
+    let gaps = tally.gaps();
+    assert_eq!(gaps.len(), 15 + 12);
+    assert_eq!(
+        gaps[0],
+        "0 arrivals have more than V (fewer than one in 1 inputs)"
+    );
+    assert_eq!(
+        gaps[15],
+        "0 inputs have another answer by V on arrival (fewer than one in 6 inputs)"
+    );
+    let counts = ArrivalCounts::default();
+    assert!(counts.gaps(0).is_empty());
+    let gaps = counts.gaps(1);
+    assert_eq!(gaps.len(), 15 + 12);
+    assert_eq!(
+        gaps[15],
+        "0 arrivals have another budget by V on arrival (fewer than one in 60 calls)"
+    );
+    let text = tally.to_string();
+    let start = "of 0 arrivals of rows that are not brittle 0 have more than V, 0 have V, ";
+    assert!(text.starts_with(start), "{text}");
+}
+
+#[test]
+fn sound_sessions_reach_every_sort_of_arrival() {
+    let mut rng = Rng::new(15);
+    let mut counts = ArrivalCounts::default();
+    for _ in 0..20_000 {
+        let session = sound_session(&mut rng);
+        counts.add(&session, rng.below(session.rows.len()) as u64);
+    }
+    assert!(counts.gaps(20_000).is_empty(), "{counts}");
 }

@@ -8,13 +8,14 @@ use std::fs;
 use std::io;
 use std::path::Path;
 
+use shuffle_model::arrivals::Arrivals;
 use shuffle_model::damage::DAMAGES;
 use shuffle_model::draws::Draws;
 use shuffle_model::driver::table_text;
 use shuffle_model::gifts::Gifts;
 use shuffle_model::inputs::{
-    full_run, light_run, odd_number_input, overloaded_table, short_draws, short_gifts,
-    short_limits, short_run, short_ties, small_run, ODD_LINES, ODD_NUMBERS, SPECIALS,
+    full_run, light_run, odd_number_input, overloaded_table, short_counts, short_draws,
+    short_gifts, short_limits, short_run, short_ties, small_run, ODD_LINES, ODD_NUMBERS, SPECIALS,
 };
 use shuffle_model::mixed::Mixed;
 use shuffle_model::opinions;
@@ -24,14 +25,14 @@ use shuffle_model::overloads::OverloadTally;
 use shuffle_model::plans::stored;
 use shuffle_model::rng::Rng;
 use shuffle_model::specification::{
-    draws, gifts, listing, mixed, plain, ties, EXAMPLES, OVERLOADS,
+    arrivals, draws, gifts, listing, mixed, plain, ties, EXAMPLES, OVERLOADS,
 };
 use shuffle_model::table::{opinion_on, Row};
 use shuffle_model::tally::Among;
 use shuffle_model::text::{leading_rows, run, run_watched};
 use shuffle_model::ties::Ties;
 
-const SEED: u64 = 12;
+const SEED: u64 = 15;
 const CASES: usize = 488;
 const LONGEST_CASE: usize = 3_999;
 const LONGEST_RANDOM_CASE: usize = 500;
@@ -50,6 +51,10 @@ const LEAST_DRAWS: usize = 40;
 /// So many cases must show in an answer that a brittle job to come keeps another one
 /// from running.
 const LEAST_LIMITS: usize = 25;
+/// So many cases must show in an answer that a job did not arrive with V, and so many that
+/// it has to count a waiting job that is due when it is.
+const LEAST_ARRIVALS: usize = 60;
+const LEAST_EQUAL: usize = 10;
 
 fn main() -> io::Result<()> {
     let arguments: Vec<String> = std::env::args().skip(1).collect();
@@ -81,11 +86,25 @@ fn shuffle_cases() -> (Vec<u8>, Vec<u8>) {
     assert!(draws >= LEAST_DRAWS, "{draws} cases show a draw");
     let limits = cases.iter().filter(|case| shows_a_limit(case)).count();
     assert!(limits >= LEAST_LIMITS, "{limits} cases show a limit");
+    check_budgets(&cases);
     let gaps = overload_gaps(&cases);
     assert!(gaps.is_empty(), "{gaps:?}");
     let (stdin, stdout) = store(&cases);
     assert!(stdin.len() < LONGEST_STDIN, "{} bytes", stdin.len());
     (stdin, stdout)
+}
+
+/// Enough of the cases must show with which budgets jobs arrive.
+fn check_budgets(cases: &[Vec<u8>]) {
+    let shown: Vec<&str> = cases.iter().flat_map(|case| refuted_by(case)).collect();
+    let count = |rule: &str| shown.iter().filter(|shown| **shown == rule).count();
+    let others = count("V on arrival");
+    assert!(others >= LEAST_ARRIVALS, "{others} cases show a budget");
+    let equal = count("waiting jobs due earlier");
+    assert!(
+        equal >= LEAST_EQUAL,
+        "{equal} cases count an equal deadline"
+    );
 }
 
 fn store(cases: &[Vec<u8>]) -> (Vec<u8>, Vec<u8>) {
@@ -113,9 +132,10 @@ fn all_cases() -> Vec<Vec<u8>> {
             1 | 2 => small_run,
             3 => full_run,
             4 => short_run,
-            5..17 => short_ties,
-            17..21 => short_gifts,
-            21..24 => short_draws,
+            5..15 => short_ties,
+            15..19 => short_gifts,
+            19..22 => short_draws,
+            22..24 => short_counts,
             _ => short_limits,
         };
         let case = make(&mut rng);
@@ -138,7 +158,8 @@ fn fixed_cases() -> Vec<Vec<u8>> {
     let each_line = ODD_LINES.iter().map(|line| (line, &"4294967296"));
     let odd = each_number.chain(each_line);
     let odd = odd.map(|(line, number)| odd_number_input(line, number));
-    let moments = [ties(), gifts(), draws(), mixed()].into_iter().flatten();
+    let moments = [ties(), gifts(), draws(), mixed(), arrivals()];
+    let moments = moments.into_iter().flatten();
     let moments = moments.map(|(input, _)| input.into_bytes());
     let fixed = listing.chain(tables).chain(texts).chain(many_rows);
     fixed.chain(odd).chain(moments).collect()
@@ -178,6 +199,14 @@ fn shows_a_limit(case: &[u8]) -> bool {
     let mut mixed = Mixed::default();
     run_watched(case, |machine, command| mixed.watch(machine, command));
     mixed.has("depend on a brittle job to come")
+}
+
+/// The wrong budgets on arrival by which an answer would be another one.
+fn refuted_by(case: &[u8]) -> Vec<&'static str> {
+    let mut arrivals = Arrivals::default();
+    let output = run_watched(case, |machine, command| arrivals.watch(machine, command));
+    arrivals.compare(case, &output);
+    arrivals.shown()
 }
 
 /// Which sorts of overloaded tables are rarer among the cases than they must be among

@@ -2,6 +2,7 @@
 
 use std::fmt;
 
+use shuffle_model::arrivals::{ArrivalTally, Arrivals};
 use shuffle_model::comparison::{compare, Reached, Subject};
 use shuffle_model::draws::{DrawTally, Draws};
 use shuffle_model::gifts::{GiftTally, Gifts};
@@ -14,8 +15,8 @@ use shuffle_model::ties::{TieTally, Ties};
 
 /// From this many inputs on, every reachable answer must have been reached, and
 /// ties that arrival decides, finishes that give, draws that pass words over, tables
-/// of which a wrong rule would name another overload, and mixed tables with all that
-/// brittle rows decide must be many enough.
+/// of which a wrong rule would name another overload, mixed tables with all that brittle
+/// rows decide, and arrivals with all that their budgets depend on must be many enough.
 const FULL_COUNT: u64 = 20_000;
 
 fn main() {
@@ -35,6 +36,7 @@ struct Answers {
     draws: DrawTally,
     overloads: OverloadTally,
     mixed: MixedTally,
+    arrivals: ArrivalTally,
 }
 
 impl Reached for Answers {
@@ -43,21 +45,25 @@ impl Reached for Answers {
         let mut gifts = Gifts::default();
         let mut draws = Draws::default();
         let mut mixed = Mixed::default();
+        let mut arrivals = Arrivals::default();
         let expected = run_watched(input, |machine, command| {
             ties.watch(machine, command);
             gifts.watch(machine, command);
             draws.watch(machine, command);
             mixed.watch(machine, command);
+            arrivals.watch(machine, command);
         });
         gifts.compare(input, &expected);
         draws.compare(input, &expected);
         mixed.compare(input, &expected);
+        arrivals.compare(input, &expected);
         self.all.add(&expected);
         self.ties.add(ties);
         self.gifts.add(&gifts);
         self.draws.add(&draws);
         self.overloads.add(&leading_rows(input));
         self.mixed.add(input, &mixed);
+        self.arrivals.add(&arrivals);
         expected
     }
 
@@ -68,6 +74,7 @@ impl Reached for Answers {
         self.draws.merge(other.draws);
         self.overloads.merge(other.overloads);
         self.mixed.merge(other.mixed);
+        self.arrivals.merge(other.arrivals);
     }
 
     fn gaps(&self, inputs: u64) -> Vec<String> {
@@ -77,6 +84,7 @@ impl Reached for Answers {
         gaps.extend(self.draws.gaps());
         gaps.extend(self.overloads.gaps(Among::Inputs(inputs)));
         gaps.extend(self.mixed.gaps());
+        gaps.extend(self.arrivals.gaps());
         gaps
     }
 }
@@ -85,14 +93,15 @@ impl fmt::Display for Answers {
     fn fmt(&self, formatter: &mut fmt::Formatter) -> fmt::Result {
         write!(
             formatter,
-            "{} output lines; answers {}; {}; {}; {}; {}; {}",
+            "{} output lines; answers {}; {}; {}; {}; {}; {}; {}",
             self.all.lines(),
             self.all,
             self.ties,
             self.gifts,
             self.draws,
             self.overloads,
-            self.mixed
+            self.mixed,
+            self.arrivals
         )
     }
 }

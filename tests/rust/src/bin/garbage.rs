@@ -7,7 +7,9 @@
 use std::process::exit;
 use std::time::Instant;
 
+use shuffle_model::arrivals::ArrivalCounts;
 use shuffle_model::batches::{Batch, BatchTally};
+use shuffle_model::calls::{perform_on_sound, Call};
 use shuffle_model::draws::{Drawn, DrawnChoices};
 use shuffle_model::explanation::explain_sound;
 use shuffle_model::explanation_text::BUFFER_LEAST;
@@ -26,7 +28,7 @@ use shuffle_model::records::{
 };
 use shuffle_model::rng::Rng;
 use shuffle_model::runs::{random_command, Style};
-use shuffle_model::session::CLOCK_END;
+use shuffle_model::session::{Session, CLOCK_END};
 use shuffle_model::sessions::random_table;
 use shuffle_model::shuffle::{self, number, Arrival, Reply, Session as Record};
 use shuffle_model::starts::StartTally;
@@ -44,8 +46,8 @@ const DEFAULT_SEED: u64 = 20_250_301;
 /// The answer numbers of the calls on records: 0 to 12.
 const NUMBERS: usize = 13;
 /// From this many calls on, each sort of tie must have been reached, and each
-/// sort of finish, of batch, of draw, of overload, of start, of explanation, and of what has
-/// to do with brittle rows often enough.
+/// sort of finish, of batch, of arrival, of draw, of overload, of start, of explanation, and
+/// of what has to do with brittle rows often enough.
 const FULL_CALLS: u64 = 1_000_000;
 /// Most calls of a history.
 const STEPS: u32 = 400;
@@ -94,6 +96,7 @@ fn main() {
         ties: TiedChoices::default(),
         finishes: FinishTally::default(),
         batches: BatchTally::default(),
+        arrivals: ArrivalCounts::default(),
         draws: DrawnChoices::default(),
         overloads: OverloadTally::default(),
         mixed: MixedCalls::default(),
@@ -114,15 +117,7 @@ fn main() {
         println!("FAILED: never reached: {missing:?}");
         exit(1);
     }
-    let mut gaps = test.ties.gaps();
-    gaps.extend(test.finishes.gaps(test.calls()));
-    gaps.extend(test.batches.gaps(test.calls()));
-    gaps.extend(test.draws.gaps(Among::Calls(test.calls())));
-    gaps.extend(test.overloads.gaps(Among::Calls(test.calls())));
-    gaps.extend(test.mixed.gaps(Among::Calls(test.calls())));
-    gaps.extend(test.held.gaps(test.calls()));
-    gaps.extend(test.starts.gaps(test.calls()));
-    gaps.extend(test.explanations.gaps(test.calls()));
+    let gaps = test.gaps();
     if calls >= FULL_CALLS && !gaps.is_empty() {
         println!("FAILED: {}", gaps.join(", "));
         exit(1);
@@ -142,6 +137,7 @@ struct Test {
     ties: TiedChoices,
     finishes: FinishTally,
     batches: BatchTally,
+    arrivals: ArrivalCounts,
     draws: DrawnChoices,
     overloads: OverloadTally,
     mixed: MixedCalls,
@@ -172,6 +168,23 @@ impl Test {
         numbers
             .filter(|number| self.count_of(*number) == 0)
             .collect()
+    }
+
+    /// What is too rare among all calls.
+    fn gaps(&self) -> Vec<String> {
+        let calls = self.calls();
+        let among = Among::Calls(calls);
+        let mut gaps = self.ties.gaps();
+        gaps.extend(self.finishes.gaps(calls));
+        gaps.extend(self.batches.gaps(calls));
+        gaps.extend(self.arrivals.gaps(calls));
+        gaps.extend(self.draws.gaps(among));
+        gaps.extend(self.overloads.gaps(among));
+        gaps.extend(self.mixed.gaps(among));
+        gaps.extend(self.held.gaps(calls));
+        gaps.extend(self.starts.gaps(calls));
+        gaps.extend(self.explanations.gaps(calls));
+        gaps
     }
 
     /// Some calls on records of the source that has the fewest calls so far.
@@ -249,7 +262,12 @@ impl Test {
         } else {
             self.start()
         };
-        let styles: [fn(&mut Rng) -> Style; 3] = [Style::random, Style::giving, Style::drawing];
+        let styles: [fn(&mut Rng) -> Style; 4] = [
+            Style::random,
+            Style::giving,
+            Style::drawing,
+            Style::counting,
+        ];
         let style = self.rng.pick(&styles)(&mut self.rng);
         let mut queue = Vec::new();
         for _ in 0..self.rng.between(1, steps) {
@@ -455,6 +473,7 @@ impl Test {
                 self.finishes.add(&session);
                 self.mixed.add_finish(&session);
             }
+            (Request::Arrive(row), Some(session)) => self.arrivals.add(&session, *row),
             _ => {}
         }
     }
@@ -506,12 +525,24 @@ impl Test {
         }
         self.batch_counts[source as usize] += 1;
         self.sound += u64::from(was_sound);
+        let session = view(&before).filter(|_| was_sound);
         let answers = expected.iter().map(|answer| (answer.row, answer.number));
         self.batches.add(&Batch {
-            session: view(&before).filter(|_| was_sound).as_ref(),
+            session: session.as_ref(),
             records: &answers.collect::<Vec<_>>(),
         });
+        if let Some(session) = session {
+            self.count_arrivals(session, &expected);
+        }
         expected
+    }
+
+    /// Counts the accepted arrivals of a batch, each on what those before it left.
+    fn count_arrivals(&mut self, mut session: Session, list: &[Arrival]) {
+        for arrival in list.iter().filter(|arrival| arrival.is_accepted()) {
+            self.arrivals.add(&session, arrival.row);
+            perform_on_sound(&mut session, Call::Arrive(arrival.row as u32));
+        }
     }
 
     /// Asks for an explanation, in a buffer of some size, and compares the answer, every
@@ -566,7 +597,7 @@ impl Test {
         let sources = SOURCES.map(|(source, name)| format!("{name} {}", self.calls_of(source)));
         let answers = (0..NUMBERS).map(|number| format!("{number}:{}", self.count_of(number)));
         format!(
-            "{} calls agree ({}; {} on sound records); answers {}; {}; {}; {}; {}; {}; {}; {}; {}; {}; the rows of {} of \
+            "{} calls agree ({}; {} on sound records); answers {}; {}; {}; {}; {}; {}; {}; {}; {}; {}; {}; the rows of {} of \
             the batches also arrived one by one",
             self.calls(),
             sources.join(", "),
@@ -580,6 +611,7 @@ impl Test {
             self.held,
             self.starts,
             self.explanations,
+            self.arrivals,
             self.batches,
             self.one_by_one
         )

@@ -7,9 +7,11 @@ use shuffle_model::meter::Question;
 use shuffle_model::session::{start, Choice, Job, Session, Slot};
 
 /// C, T, D of four rows. With every D below every T, V of a row is its D less
-/// the C of all rows, 14: V is 6, 16, 26, 36. D − C is 16, 27, 38, 45. When all
-/// of them wait there are 5 candidates, and 3 lengths for row 1, 2 for row 2, 5
-/// for row 3, 6 for idle.
+/// the C of all rows, 14: V is 6, 16, 26, 36. D − C is 16, 27, 38, 45. A job that
+/// arrives while each other row waits or may come at once has D less its own C and
+/// those of the rows before it: 16, 23, 31, 36. When all of them have arrived on one
+/// tick there are 5 candidates, and 3 lengths for row 1, 2 for row 2, 5 for row 3, 16
+/// for idle.
 pub const FOUR: [[u32; 3]; 4] = [[4, 100, 20], [3, 100, 30], [2, 100, 40], [5, 100, 50]];
 
 pub fn fresh(rows: &[[u32; 3]]) -> Session {

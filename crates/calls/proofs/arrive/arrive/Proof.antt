@@ -2,14 +2,16 @@
 use borrow.Author.Needs.{needs}
 use Rattle.session.specs.Calls.{arriveOf}
 use Rattle.session.specs.Guard.{guarded-laws}
+use Rattle.session.specs.Soundness.{checked-marks}
+use Rattle.calls.specs.Code.{mark-of}
 use Rattle.calls.proofs.arrive.arrive.Statement.{statement}
 use Rattle.calls.proofs.arrive.arrive.Tie as tie
 
-is-sound-requires : tie.Need-is-sound-requires
-is-sound-requires c κs = search needs
+check-of-requires : tie.Need-check-of-requires
+check-of-requires c κs = search needs
 
-arrive-sound-requires : tie.Need-arrive-sound-requires
-arrive-sound-requires c κs = search (needs, guarded-laws)
+arrive-marked-requires : tie.Need-arrive-marked-requires
+arrive-marked-requires c κs = search (needs, guarded-laws, checked-marks, mark-of)
 
 returns : tie.Need-returns
 unfolding arriveOf
@@ -24,4 +26,4 @@ returns-2 c = search (needs, guarded-laws)
 
 pub arrive-spec : {M : Type 1} → statement M
 arrive-spec =
-    tie.close (tie.spec is-sound-requires arrive-sound-requires returns refuse-requires returns-2)
+    tie.close (tie.spec check-of-requires arrive-marked-requires returns refuse-requires returns-2)

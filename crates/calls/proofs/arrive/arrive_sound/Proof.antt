@@ -1,84 +1,21 @@
 -- `calls::arrive::arrive_sound` meets its contract. Assumes nothing.
-use mathlib.Core.Path.{_≡_, sym}
-use native.Mathlib.Omega.{arith}
-use lib.ListN.{length}
-use lib.Seq.{length-take-le}
 use borrow.Author.Needs.{needs}
-use Rattle.session.specs.Reading.{rowsOf}
-use Rattle.session.specs.Facts.{facts-of}
-use Rattle.calls.specs.Code.{arrive-cases}
-use Rattle.calls.specs.Code.{places, facts-rows}
+use Rattle.calls.specs.Code.{mark-alone}
 use Rattle.calls.proofs.arrive.arrive_sound.Statement.{statement}
 use Rattle.calls.proofs.arrive.arrive_sound.Tie as tie
 
-refuse-requires : tie.Need-refuse-requires
-refuse-requires c κs = search needs
+shared-inverses-requires : tie.Need-shared-inverses-requires
+shared-inverses-requires c κs = search needs
+
+brittle-row-requires : tie.Need-brittle-row-requires
+brittle-row-requires c κs = search needs
+
+arrive-by-requires : tie.Need-arrive-by-requires
+arrive-by-requires c κs = search (needs, mark-alone)
 
 returns : tie.Need-returns
-returns c = search (needs, arrive-cases)
-
-mul-j : tie.Need-mul-j
-mul-j c = search (needs, places)
-
-element-copy-out-j : tie.Need-element-copy-out-j
-element-copy-out-j c = search (needs, places)
-
-refuse-requires-2 : tie.Need-refuse-requires-2
-refuse-requires-2 c κs = search needs
-
-returns-2 : tie.Need-returns-2
-returns-2 c = search (needs, arrive-cases)
-
-mul-e : tie.Need-mul-e
-mul-e c = let a = c .before .before .before .before .before in let f = facts-of _ (a .pre) in record { fits = omega (arith, f .few) }
-
-array-share-prefix-words : tie.Need-array-share-prefix-words
-array-share-prefix-words c =
-    let a = c .before .before .before .before .before in
-    let e : length (a .args .s .words) ≡ 48 = search needs in
-    let f = facts-of _ (a .pre) in
-    omega (arith, f .few)
-
-slice-aggregate-arriving : tie.Need-slice-aggregate-arriving
-slice-aggregate-arriving c =
-    let a = c .before .before .before .before .before .before in
-    let e : length (a .args .s .words) ≡ 48 = search needs in
-    let f = facts-of _ (a .pre) in
-    sym (length-take-le _ _ (omega (arith, f .few)))
-
-arriving-requires : tie.Need-arriving-requires
-unfolding rowsOf
-arriving-requires c κs =
-    let a = c .before .before .before .before .before .before in
-    let e : length (a .args .s .words) ≡ 48 = search needs in
-    let f = facts-of _ (a .pre) in
-    let r = facts-rows (a .args .s) (a .args .row) f e (search needs) in
-    (r .0, r .1, f .clock)
-
-mul-k : tie.Need-mul-k
-mul-k c = search (needs, places)
-
-element-set-from-k : tie.Need-element-set-from-k
-element-set-from-k c = search (needs, places)
-
-returns-3 : tie.Need-returns-3
-unfolding rowsOf
-returns-3 c = search (needs, arrive-cases)
+returns c = search needs
 
 pub arrive-sound-spec : {M : Type 1} → statement M
 arrive-sound-spec =
-    tie.close
-    (tie.spec
-    refuse-requires
-    returns
-    mul-j
-    element-copy-out-j
-    refuse-requires-2
-    returns-2
-    mul-e
-    array-share-prefix-words
-    slice-aggregate-arriving
-    arriving-requires
-    mul-k
-    element-set-from-k
-    returns-3)
+    tie.close (tie.spec shared-inverses-requires brittle-row-requires arrive-by-requires returns)

@@ -3,15 +3,15 @@ use borrow.Author.Needs.{needs}
 use Prim.Native.Nat.{_≤_, _-_, _*_}
 use mathlib.Core.Path.{_≡_}
 use Rattle.bounded.specs.Sum.{sumTo}
-use Rattle.edf.specs.Demand.{interference}
+use Rattle.bounded.specs.Besides.{besides}
+use Rattle.edf.specs.Demand.{rowRequest, interference}
 use Rattle.table.specs.Bound.{total-laws}
-use Rattle.table.specs.Budgets.{chargeOf}
 use Rattle.table.specs.Rows.{tasksOf}
 use Rattle.table.proofs.budgets.interfering.Statement.{statement}
 use Rattle.table.proofs.budgets.interfering.Tie as tie
 
 abbrev Inv-loop : tie.InvT-loop
-Inv-loop words inverses i x n sum₀ j₀ sum j = (j ≤ n) × (sum ≡ sumTo (chargeOf (tasksOf words) i x) j) × (sum ≤ 1000000000000 * j)
+Inv-loop words inverses i x n sum₀ j₀ sum j = (j ≤ n) × (sum ≡ sumTo (besides (rowRequest (tasksOf words) x) i) j) × (sum ≤ 1000000000000 * j)
 
 abbrev μ-loop : tie.MeasureT-loop
 μ-loop words inverses i x n sum₀ j₀ sum j = n - j
