@@ -20,20 +20,20 @@ const LONGEST: u32 = 10_000;
 
 /// When jobs come, and how long they run.
 #[derive(Clone, Copy, Debug, PartialEq, Eq)]
-enum Load {
+pub enum Load {
     /// As early as their row allows, for C ticks.
     Early,
     /// Up to T ticks after that, for 1 to C ticks.
     Random,
 }
 
-const LOADS: [(Load, &str); 2] = [
+pub const LOADS: [(Load, &str); 2] = [
     (Load::Early, "as early as they may, for C ticks"),
     (Load::Random, "0 to T ticks later, for 1 to C ticks"),
 ];
 
-/// The jobs to come by tick, and of one tick by row.
-fn coming(rows: &[Row], load: Load, rng: &mut Rng) -> Vec<Coming> {
+/// The jobs to come up to a tick, by tick, and of one tick by row.
+pub fn coming(rows: &[Row], load: Load, end: u64, rng: &mut Rng) -> Vec<Coming> {
     let mut jobs = Vec::new();
     for (row, own) in rows.iter().enumerate() {
         let mut earliest = 0;
@@ -43,7 +43,7 @@ fn coming(rows: &[Row], load: Load, rng: &mut Rng) -> Vec<Coming> {
                 Load::Random => (rng.between(0, own.period), rng.between(1, own.run)),
             };
             let tick = earliest + u64::from(delay);
-            if tick >= TICKS {
+            if tick >= end {
                 break;
             }
             let need = u64::from(need);
@@ -72,7 +72,7 @@ fn share(part: u64, of: u64) -> f64 {
 /// Runs a table with random words and without, with the same jobs.
 fn seen(rows: &[Row], load: Load, case: u64) -> Seen {
     let mut rng = Rng::for_case(2, case);
-    let jobs = coming(rows, load, &mut rng);
+    let jobs = coming(rows, load, TICKS, &mut rng);
     let shuffled = run(rows, &jobs, TICKS, Some(rng));
     let plain = run(rows, &jobs, TICKS, None).schedule;
     let pairs = shuffled.schedule.iter().zip(&plain);

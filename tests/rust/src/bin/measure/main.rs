@@ -5,6 +5,7 @@ mod arrivals;
 mod cases;
 mod count;
 mod differing;
+mod entropy;
 mod explanations;
 mod host;
 mod meters;
@@ -68,6 +69,7 @@ fn main() {
     opinions::print(scratch);
     overloads::print(scratch);
     differing::print();
+    entropy::print();
 }
 
 /// A table: its shape, the name of that, and its number of rows.
