@@ -21,6 +21,8 @@ use Rattle.table.specs.Rows.{horizon, tasksOf, FitRow, Fit}
 use Rattle.bounded.specs.Within.{Within}
 use Rattle.table.specs.Budgets.{budgetOf, brittle}
 use Rattle.table.specs.declared.inverse.Prepared.{Prepared}
+use Rattle.table.specs.Statement.{HasKind}
+use Rattle.table.specs.Theorems.{kind-means}
 use Rattle.table.specs.Inverse.{Ready, Tame, tame-of}
 use Rattle.session.specs.declared.Job.{Job}
 use Rattle.session.specs.declared.Session.{Session}
@@ -34,7 +36,7 @@ use Rattle.session.specs.Sound.{sound}
 use Rattle.session.specs.Facts.{Facts, Choice, Running, facts-of, facts-fit}
 use Rattle.session.specs.Arrive.{new-brittle, new-firm}
 use Rattle.session.specs.Ahead.{aheadBy, DueOf, ahead-is}
-use Rattle.session.specs.Brittle.{rows-count, Marks, loose-rows, tight-rows}
+use Rattle.session.specs.Brittle.{rows-count, Marks}
 use Rattle.session.specs.Calls.{refused, changed, overJob, withBudget, steppedOf, arrivedBy, arrivedJob, arrivedOf, arriveIn, agedJob, overBy, overAfter, advanceIn, unusedOf, gains, givenJob, finishedOf, finishIn}
 use Rattle.session.specs.Jobs.{doneTo, done-past, done-next}
 
@@ -180,13 +182,6 @@ mark-of s m row h = record { at = h .at row }
 pub record Marked (s : Session) (row : ℕ) (b : Bool) : Type 0 where
   pub is : row < s .count → b ≡ brittle (tasks s) row
 
-module _ (s : Session) (row : ℕ) (e : sound s ≡ true) (places : length (s .words) ≡ 48) where
-  pub marked-loose : s .kind ≡ 1 → Marked s row false
-  marked-loose k = record { is = λ l. sym (loose-rows s (facts-of s e) k row (omega (arith, rows-count s (facts-of s e .few) places))) }
-
-  pub marked-tight : s .kind ≡ 2 → Marked s row true
-  marked-tight k = record { is = λ l. sym (tight-rows s (facts-of s e) k row (omega (arith, rows-count s (facts-of s e .few) places))) }
-
 pub marked-none : (s : Session) (row : ℕ) (b : Bool) → s .count ≤ row → Marked s row b
 marked-none s row b h = record { is = λ l. absurd (omega arith) }
 
@@ -195,7 +190,21 @@ pub marked-value : (s : Session) (row : ℕ) (v w : ℤ) (b : Bool) → v ≡ bu
 unfolding brittle
 marked-value s row v w b e r h = record { is = λ l. h ∙ ap negative (r ∙ e) }
 
-pub ruleset marked-cases = (marked-loose, marked-tight, marked-none, marked-value)
+pub ruleset marked-cases = (marked-none, marked-value)
+
+-- in a loose and in a tight session all rows are alike
+pub mark-alike : (s : Session) (row : ℕ) → sound s ≡ true → length (s .words) ≡ 48 → (s .kind ≡ 3 → ⊥) → MarkOf s (replicate 16 (eqb (s .kind) 2)) row
+mark-alike s row e places ne =
+    let f = facts-of s e in
+    record {
+      at = λ l. getD-replicate 16 row (eqb (s .kind) 2) false (omega (arith, f .few))
+          ∙ by (subst (HasKind (tasks s)) (f .kind) (kind-means (rowsOf s) (f .admitted))) ne row (omega (arith, rows-count s (f .few) places));
+    }
+  where
+    by : {k : ℕ} → HasKind (tasks s) k → (k ≡ 3 → ⊥) → (i : ℕ) → i < tasks s .rows → eqb k 2 ≡ brittle (tasks s) i
+    by (HasKind.isLoose h) ne i l = sym (h i l)
+    by (HasKind.isTight h) ne i l = sym (h i l)
+    by (HasKind.isMixed i j p a q b) ne k l = absurd (ne refl)
 
 pub mark-alone : (s : Session) (row : ℕ) (b : Bool) → sound s ≡ true → Marked s row b → MarkOf s (replicate 16 b) row
 mark-alone s row b e h =

@@ -186,19 +186,12 @@ pub fn shared_inverses(s: Session) -> [u64; 16]
     inverses_of(&words[..e])
 }
 
-// Whether a row of the table is brittle; only in a mixed session that takes its V.
+// Whether a row of the table is brittle, by its V.
 fn brittle_row(s: Session, inverses: &[u64; 16], row: u64) -> bool
     requires { ⌜ (sound s ≡ true) × Inverses (tasks s) (now inverses) ⌝ }
     ensures { λ r. ⌜ Marked s row r ⌝ }
 {
-    let kind = s.kind;
     let count = s.count;
-    if kind == 1 {
-        return false;
-    }
-    if kind == 2 {
-        return true;
-    }
     if count <= row {
         return false;
     }
@@ -208,14 +201,28 @@ fn brittle_row(s: Session, inverses: &[u64; 16], row: u64) -> bool
     below_zero(v)
 }
 
-// `arrive` without its check, for callers who can prove that the session is sound.
-pub fn arrive_sound(s: Session, row: u64) -> Outcome
+// `arrive_sound` in a mixed session: V of the row and its new job's budget share the inverses.
+fn arrive_mixed(s: Session, row: u64) -> Outcome
     requires { ⌜ sound s ≡ true ⌝ }
     ensures { λ r. ⌜ r ≡ arriveIn s row ⌝ }
 {
     let inverses = shared_inverses(s);
     let mark = brittle_row(s, &inverses, row);
     arrive_by(s, &inverses, [mark; 16], row)
+}
+
+// `arrive` without its check, for callers who can prove that the session is sound. In a loose session no row is brittle, and in a
+// tight one each is.
+pub fn arrive_sound(s: Session, row: u64) -> Outcome
+    requires { ⌜ sound s ≡ true ⌝ }
+    ensures { λ r. ⌜ r ≡ arriveIn s row ⌝ }
+{
+    let kind = s.kind;
+    if kind == 3 {
+        return arrive_mixed(s, row);
+    }
+    let tight = kind == 2;
+    arrive_marked(s, [tight; 16], row)
 }
 
 pub fn arrive(s: Session, row: u64) -> Outcome

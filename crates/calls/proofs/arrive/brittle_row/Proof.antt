@@ -11,27 +11,21 @@ use Rattle.calls.proofs.arrive.brittle_row.Statement.{statement}
 use Rattle.calls.proofs.arrive.brittle_row.Tie as tie
 
 returns : tie.Need-returns
-returns c = let e : length (c .before .args .s .words) ≡ 48 = search needs in search (needs, marked-cases)
-
-returns-2 : tie.Need-returns-2
-returns-2 c = let e : length (c .before .before .args .s .words) ≡ 48 = search needs in search (needs, marked-cases)
-
-returns-3 : tie.Need-returns-3
-returns-3 c = search (needs, marked-cases)
+returns c = search (needs, marked-cases)
 
 mul-e : tie.Need-mul-e
-mul-e c = let a = c .before .before .before .before in let f = facts-of _ (a .pre .0) in record { fits = omega (arith, f .few) }
+mul-e c = let a = c .before .before in let f = facts-of _ (a .pre .0) in record { fits = omega (arith, f .few) }
 
 array-share-prefix-words : tie.Need-array-share-prefix-words
 array-share-prefix-words c =
-    let a = c .before .before .before .before in
+    let a = c .before .before in
     let e : length (a .args .s .words) ≡ 48 = search needs in
     let f = facts-of _ (a .pre .0) in
     omega (arith, f .few)
 
 slice-aggregate-value-of : tie.Need-slice-aggregate-value-of
 slice-aggregate-value-of c =
-    let a = c .before .before .before .before .before in
+    let a = c .before .before .before in
     let e : length (a .args .s .words) ≡ 48 = search needs in
     let f = facts-of _ (a .pre .0) in
     sym (length-take-le _ _ (omega (arith, f .few)))
@@ -39,7 +33,7 @@ slice-aggregate-value-of c =
 value-of-requires : tie.Need-value-of-requires
 unfolding rowsOf
 value-of-requires c κs =
-    let a = c .before .before .before .before .before in
+    let a = c .before .before .before in
     let e : length (a .args .s .words) ≡ 48 = search needs in
     let r = facts-rows (a .args .s) (a .args .row) (facts-of _ (a .pre .0)) e (search needs) in
     (r .0, a .pre .1, r .1)
@@ -47,20 +41,18 @@ value-of-requires c κs =
 below-zero-requires : tie.Need-below-zero-requires
 below-zero-requires c κs = search needs
 
-returns-4 : tie.Need-returns-4
+returns-2 : tie.Need-returns-2
 unfolding rowsOf
-returns-4 c = search (needs, marked-cases)
+returns-2 c = search (needs, marked-cases)
 
 pub brittle-row-spec : {M : Type 1} → statement M
 brittle-row-spec =
     tie.close
     (tie.spec
     returns
-    returns-2
-    returns-3
     mul-e
     array-share-prefix-words
     slice-aggregate-value-of
     value-of-requires
     below-zero-requires
-    returns-4)
+    returns-2)
