@@ -13,7 +13,7 @@ use mir.Syntax.{w64}
 use mir.Val.{Fits}
 use borrow.Author.Tests.{lt-ltb, le-ltb, ltb-false, le-leb, lt-leb, eq-eqb, ne-eqb}
 use Rattle.bounded.specs.Tests.{both, gate, gate-on, gate-off, gate-le}
-use Rattle.bounded.specs.Sum.{sumTo, sum-start, sum-next}
+use Rattle.bounded.specs.Sum.{sumTo, sum-next}
 use Rattle.bounded.specs.Besides.{besides}
 use Rattle.bounded.specs.Signed.{negative}
 use Rattle.table.specs.declared.rows.Task.{Task}
@@ -23,7 +23,7 @@ use Rattle.table.specs.Budgets.{budgetOf, brittle}
 use Rattle.table.specs.declared.inverse.Prepared.{Prepared}
 use Rattle.table.specs.Statement.{HasKind}
 use Rattle.table.specs.Theorems.{kind-means}
-use Rattle.table.specs.Inverse.{Ready, Tame, tame-of}
+use Rattle.table.specs.Inverse.{Ready}
 use Rattle.session.specs.declared.Job.{Job}
 use Rattle.session.specs.declared.Session.{Session}
 use Rattle.session.specs.declared.Answer.the-variants.{Arrived, Advanced, Finished, NoRow, TooEarly, NoChoice, BadStep, Idling, ClockEnd}
@@ -37,7 +37,7 @@ use Rattle.session.specs.Facts.{Facts, Choice, Running, facts-of, facts-fit}
 use Rattle.session.specs.Arrive.{new-brittle, new-firm}
 use Rattle.session.specs.Ahead.{aheadBy, DueOf, ahead-is}
 use Rattle.session.specs.Brittle.{rows-count, Marks}
-use Rattle.session.specs.Calls.{refused, changed, overJob, withBudget, steppedOf, arrivedBy, arrivedJob, arrivedOf, arriveIn, agedJob, overBy, overAfter, advanceIn, unusedOf, gains, givenJob, finishedOf, finishIn}
+use Rattle.session.specs.Calls.{refused, changed, overJob, withBudget, steppedOf, arrivedBy, arrivedJob, arriveIn, agedJob, overBy, overAfter, advanceIn, unusedOf, gains, givenJob, finishedOf, finishIn}
 use Rattle.session.specs.Jobs.{doneTo, done-past, done-next}
 
 -- ---- what soundness gives the code
@@ -233,11 +233,11 @@ pub record Asking (s : Session) (i : ℕ) (l : List ℕ) (m : List Bool) (t : Ta
   pub ready : jobAt s i .next ≤ s .clock
 
 module _ {s : Session} {i : ℕ} {l : List ℕ} {m : List Bool} {t : Task} {clock n : ℕ} (a : Asking s i l m t clock n) where
-  pub few : s .count ≤ 16
-  few = facts-of s (a .sound) .few
+  pub asked-few : s .count ≤ 16
+  asked-few = facts-of s (a .sound) .few
 
   rows : tasks s .rows ≡ s .count
-  rows = rows-count s few (a .places)
+  rows = rows-count s asked-few (a .places)
 
   pub asked-fit : Fit (tasksOf l)
   asked-fit = rw (a .table) (facts-fit s (facts-of s (a .sound)))
@@ -254,15 +254,12 @@ module _ {s : Session} {i : ℕ} {l : List ℕ} {m : List Bool} {t : Task} {cloc
   pub asked-period : t .period ≤ 1000000
   asked-period = let d = a .task .row in let r = a .task .rule in omega (arith, d .period, r .limit)
 
-  pub asked-start : 0 ≡ sumTo (askedOf s i) 0
-  asked-start = sum-start (askedOf s i)
-
   module _ (j : ℕ) (u : j < n) where
     pub asked-row : j < tasksOf l .rows
     asked-row = rw (a .table) (omega (arith, rows, a .looked .small))
 
     pub asked-place : j < 16
-    asked-place = omega (arith, few, a .looked .small)
+    asked-place = omega (arith, asked-few, a .looked .small)
 
     pub asked-left : jobAt s j .left ≤ 1000000
     unfolding waits
@@ -271,9 +268,6 @@ module _ {s : Session} {i : ℕ} {l : List ℕ} {m : List Bool} {t : Task} {cloc
         let r = facts-fit s f .row j (omega (arith, rows, a .looked .small)) in
         both (waits s j) (λ w. omega (arith, f .job j (omega (arith, a .looked .small)) w .most))
         (λ w. omega (arith, ltb-false 0 (jobAt s j .left) w))
-
-    pub asked-tame : (k : Prepared) → Ready (tasksOf l) j k → Tame k
-    asked-tame k f = tame-of (tasksOf l) j k f
 
     -- one row more
     module _ (k : Prepared) (x r : ℕ) (f : Ready (tasksOf l) j k) (w : Within 1000001000000 (gate (not (eqb j i)) (loadBy k (jobAt s j) clock (t .deadline))) r) where
@@ -291,7 +285,7 @@ module _ {s : Session} {i : ℕ} {l : List ℕ} {m : List Bool} {t : Task} {cloc
 
   module _ (j x : ℕ) (b : x ≤ 1000001000000 * j) (u : j ≤ n) where
     pub asked-most : x ≤ 16000016000000
-    asked-most = omega (arith, few, a .looked .small)
+    asked-most = omega (arith, asked-few, a .looked .small)
 
     -- the new job is the one that is defined
     job-is : n ≤ j → x ≡ sumTo (askedOf s i) j → arrivingBy t clock (getD m i false) x ≡ arrivedJob s i
@@ -313,7 +307,7 @@ module _ {s : Session} {i : ℕ} {l : List ℕ} {m : List Bool} {t : Task} {cloc
         ap (λ (k : Job). record { answer = Arrived i (k .due); used = 0; session = changed s (s .clock) (set (s .jobs) i k) 0 0 }) (g ∙ job-is h e)
         ∙ sym (simp (lt-leb (s .count) i (a .known), le-ltb (s .clock) (jobAt s i .next) (a .ready)))
 
-pub ruleset asked-laws = (asked-fit, asked-clock, asked-run, asked-deadline, asked-period, asked-start, asked-row, asked-place, asked-left, asked-tame, asked-next, asked-small, asked-fits, asked-most)
+pub ruleset asked-laws = (asked-place, asked-fits)
 
 pub ruleset arrive-cases = (arrive-unknown, arrive-early)
 

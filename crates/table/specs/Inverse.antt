@@ -139,13 +139,6 @@ ready-of τ v i m k fit e l f g =
       rule = f .rule;
     }
 
--- the inverse worked out
-pub ready-alone : (τ : TaskSet) (i m : ℕ) (k : Task) → FitRow τ i k → m ≡ inverseOf (k .period)
-    → Ready τ i (record { run = k .run; period = k .period; deadline = k .deadline; inverse = m })
-ready-alone τ i m k f g =
-    let r = f .row in
-    record { row = record { run = r .run; period = r .period; deadline = r .deadline; inverse = g }; rule = f .rule }
-
 -- what a row's numbers are bounded by, whichever row it is
 pub record Tame (k : Prepared) : Type 0 where
   pub some : 1 ≤ k .deadline

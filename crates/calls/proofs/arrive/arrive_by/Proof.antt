@@ -7,11 +7,11 @@ use lib.Seq.{length-take-le}
 use borrow.Author.Needs.{needs}
 use Rattle.bounded.specs.Sum.{sumTo, sum-start}
 use Rattle.table.specs.Rows.{tasksOf}
-use Rattle.table.specs.Inverse.{Inverses}
+use Rattle.table.specs.Inverse.{Inverses, tame-of}
 use Rattle.session.specs.Reading.{rowsOf}
 use Rattle.session.specs.Facts.{facts-of}
 use Rattle.calls.specs.Code.{places, place-fits, facts-rows, arrive-cases}
-use Rattle.calls.specs.Code.{askedOf, Asking, asked-laws, asked-done, asked-fit, asked-row, asked-tame, asked-left, asked-clock, asked-run, asked-deadline, asked-period, asked-next, asked-small, asked-most, few}
+use Rattle.calls.specs.Code.{askedOf, Asking, asked-laws, asked-done, asked-fit, asked-row, asked-left, asked-clock, asked-run, asked-deadline, asked-period, asked-next, asked-small, asked-most, asked-few}
 use Rattle.calls.proofs.arrive.arrive_by.Statement.{statement}
 use Rattle.calls.proofs.arrive.arrive_by.Tie as tie
 
@@ -102,7 +102,7 @@ element-copy-out-charge : tie.Need-element-copy-out-charge Inv-loop μ-loop
 element-copy-out-charge c = search (needs, asked-laws)
 
 charge-requires : tie.Need-charge-requires Inv-loop μ-loop
-charge-requires c κs = let k = c .before .before .before .loop .inv .0 in (search (needs, asked-tame), asked-left k _ (search needs), asked-clock k, asked-deadline k)
+charge-requires c κs = let k = c .before .before .before .loop .inv .0 in (search (needs, tame-of), asked-left k _ (search needs), asked-clock k, asked-deadline k)
 
 add-asked : tie.Need-add-asked Inv-loop μ-loop
 add-asked c = search (needs, asked-laws)
@@ -129,7 +129,7 @@ arriving-requires c κs =
     (asked-run k, asked-deadline k, asked-period k, asked-clock k, asked-most k _ _ (c .before .loop .inv .3) (c .before .loop .inv .1))
 
 mul-job : tie.Need-mul-job Inv-loop μ-loop
-mul-job c = let k = c .before .before .loop .inv .0 in place-fits _ (omega (arith, k .known, few k))
+mul-job c = let k = c .before .before .loop .inv .0 in place-fits _ (omega (arith, k .known, asked-few k))
 
 element-set-from-job : tie.Need-element-set-from-job Inv-loop μ-loop
 element-set-from-job c = search (needs, places)
