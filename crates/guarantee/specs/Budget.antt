@@ -1,6 +1,7 @@
 -- The budget that a job arrives with (docs/SPECIFICATION.md §5.3): it is not cut, and never below V. Assumes nothing.
 use Prim.Native.Nat.{ℕ, _+_, _-_, _≤_, _<_}
 use mathlib.Core.Path.{_≡_, refl, sym, ap, subst, _∙_}
+use mathlib.Core.Bool.{true}
 use mathlib.Core.List.{List}
 use mathlib.Core.Logic.{dite}
 use native.Mathlib.Nat.{mul-le-mul-right}
@@ -16,16 +17,16 @@ use Rattle.table.specs.Budgets.{budgetOf}
 use Rattle.session.specs.declared.Session.{Session}
 use Rattle.session.specs.declared.Job.{Job}
 use Rattle.session.specs.declared.Answer.{Answer}
-use Rattle.session.specs.Reading.{jobAt, rowsOf, tasks, natural, stateOf}
+use Rattle.session.specs.Reading.{jobAt, tasks, natural, stateOf}
+use Rattle.session.specs.Sound.{sound}
 use Rattle.session.specs.Calls.{shown, arrivalBudget, newBudget, arriveOf}
 use Rattle.session.specs.Facts.{facts-of, facts-fit}
 use Rattle.session.specs.Brittle.{rows-count}
 use Rattle.session.specs.Arrive.{asked, new-whole, new-from, arrived-at}
 use Rattle.guarantee.specs.Ledger.{arrive}
-use Rattle.guarantee.specs.Statement.{sessionFrom, BudgetWhole, NeverBelowV, DeadlinesCounted}
+use Rattle.guarantee.specs.Statement.{sessionFrom, BudgetWhole, NeverBelowV, SoundNeverBelowV, DeadlinesCounted}
 use Rattle.guarantee.specs.Good.{Good, good-places}
 use Rattle.guarantee.specs.Effects.{Effect, refusal, arrived, effect-of}
-use Rattle.guarantee.specs.KeepsStep.{good-facts}
 use Rattle.guarantee.specs.Keeps.{good-reached}
 
 -- a job that arrives has the new budget, in a row of the table
@@ -49,21 +50,26 @@ budget-whole s e jobs words row firm z =
     let r = of-effect s (omega (arith, f .few)) rows row (effect-of s e (arrive row)) z in
     ap pos (r .0) ∙ sym (whole-is s row (new-whole s row f (r .1) rows firm))
 
-from-good : (s : Session) → Good (rowsOf s) s → (row : ℕ) → shown (arriveOf s row .answer) .number ≡ 0
+from-sound : (s : Session) → sound s ≡ true → s .count ≤ length (s .jobs) → tasks s .rows ≡ s .count
+    → (row : ℕ) → shown (arriveOf s row .answer) .number ≡ 0
     → natural (budgetOf (tasks s) row) ≤ jobAt (arriveOf s row .session) row .budget
-from-good s g row z =
-    let rows = sym (g .count) in
-    let r = of-effect s (good-places g) rows row (effect-of s (g .sound) (arrive row)) z in
-    omega (arith, r .0, new-from s row (good-facts s g) (r .1) rows)
+from-sound s e places rows row z =
+    let r = of-effect s places rows row (effect-of s e (arrive row)) z in
+    omega (arith, r .0, new-from s row (facts-of s e) (r .1) rows)
 
 -- A NEW JOB'S BUDGET IS NEVER BELOW V
+pub sound-never-below-v : SoundNeverBelowV
+sound-never-below-v s e jobs words =
+    let f = facts-of s e in
+    from-sound s e (omega (arith, f .few)) (rows-count s (f .few) words)
+
 pub never-below-v : NeverBelowV
 never-below-v l e s₀ calls row z =
     let s = sessionFrom s₀ l calls in
     let g = good-reached l e s₀ calls in
     subst
     (λ (x : List ℕ). Good x s → natural (budgetOf (tasksOf x) row) ≤ jobAt (arriveOf s row .session) row .budget)
-    (g .rows) (λ h. from-good s h row z) g
+    (g .rows) (λ h. from-sound s (h .sound) (good-places h) (sym (h .count)) row z) g
 
 -- EACH DEADLINE COUNTS ONCE
 pub deadlines-counted : DeadlinesCounted

@@ -1,5 +1,5 @@
--- The guarantee (docs/SPECIFICATION.md §6.2): the theorems of Statement.antt but those in Keeps.antt, Arrived.antt and
--- Tight.antt. Assumes nothing.
+-- The guarantee (docs/SPECIFICATION.md §6.2): the theorems of Statement.antt but those in Keeps.antt, Budget.antt, Arrived.antt,
+-- Tight.antt and Mixed.antt. Assumes nothing.
 use Prim.Native.Nat.{ℕ}
 use mathlib.Core.Path.{_≡_, refl, sym, ap, _∙_}
 use mathlib.Core.List.{List, [], _∷_, _++_, map}

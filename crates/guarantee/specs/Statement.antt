@@ -197,6 +197,13 @@ NeverBelowV =
     → (s₀ : Session) (calls : List HostCall) (row : ℕ) → shown (arriveOf (sessionFrom s₀ l calls) row .answer) .number ≡ 0
     → natural (budgetOf (tasksOf l) row) ≤ jobAt (arriveOf (sessionFrom s₀ l calls) row .session) row .budget
 
+-- IT IS NEVER BELOW V IN ANY SOUND RECORD, also one that no list of calls leads to
+abbrev pub SoundNeverBelowV : Type 0
+SoundNeverBelowV =
+    (s : Session) → sound s ≡ true → length (s .jobs) ≡ 16 → length (s .words) ≡ 48
+    → (row : ℕ) → shown (arriveOf s row .answer) .number ≡ 0
+    → natural (budgetOf (tasks s) row) ≤ jobAt (arriveOf s row .session) row .budget
+
 -- the deadline of a job of row j that is still to come, the m-th from 0: the first arrives at the later of clock and earliest next
 -- arrival, the others T apart
 abbrev pub dueToCome : Session → ℕ → ℕ → ℕ

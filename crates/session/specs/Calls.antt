@@ -90,7 +90,8 @@ arrivalBudget s row =
     pos (tasks s .D row) -ℤ pos (tasks s .C row)
     -ℤ pos (loadBesides (tasks s) (stateOf s) row (s .clock + tasks s .D row))
 
--- a new job's budget: that, and 0 where the row is brittle. In a sound session it is never negative (`BudgetWhole`).
+-- a new job's budget: that, and 0 where the row is brittle. In a sound session the difference is never negative where the row is
+-- not brittle (`BudgetWhole` in crates/guarantee/specs/Statement.antt).
 unfoldable pub newBudget : Session → ℕ → ℕ
 newBudget s row = cond (brittle (tasks s) row) 0 (natural (arrivalBudget s row))
 
