@@ -132,9 +132,9 @@ fn arrive_marked(s: Session, brittle: [bool; 16], row: u64) -> Outcome
     }
 }
 
-// `arrive_marked` with the inverses of the table's periods, for callers who have them: no division. It is a second body, since the
-// compiler puts a function into its only caller: with one body for both, a checked arrive takes a copy of the record more
-// (docs/PERFORMANCE.md).
+// `arrive_marked` with the inverses of the table's periods and no division, for callers who can prove that the session is sound and
+// that these are its table's. It is a second body, since the compiler puts a function into its only caller: with one body for
+// both, a checked arrive takes a copy of the record more (docs/PERFORMANCE.md).
 pub fn arrive_by(s: Session, inverses: &[u64; 16], brittle: [bool; 16], row: u64) -> Outcome
     requires { ⌜ (sound s ≡ true) × Inverses (tasks s) (now inverses) × MarkOf s brittle row ⌝ }
     ensures { λ r. ⌜ r ≡ arriveIn s row ⌝ }
