@@ -1,5 +1,6 @@
 -- What is guaranteed over every list of calls (docs/SPECIFICATION.md §6.2), of a start and of the record of a refused table (§5.1), of the
--- budget that a job arrives with (§5.3), of the order of jobs and of a choice in a tight session (§5.4), of what a finish gives (§5.6), and of a batch of arrivals (§5.9).
+-- budget that a job arrives with (§5.3), of the order of jobs and of a choice in a tight session (§5.4), of what a finish gives
+-- (§5.6), and of a batch of arrivals (§5.9).
 -- Definitions only. Assumes nothing.
 use Prim.Native.Nat.{ℕ, _+_, _-_, _*_, max, _≤_, _<_}
 use mathlib.Core.Path.{_≡_}

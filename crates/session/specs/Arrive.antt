@@ -52,7 +52,7 @@ module _ (s : Session) (row : ℕ) where
       both (brittle (tasks s) row) (λ e. simp e (omega (arith, new-brittle e))) (λ e. simp e (omega (arith, new-firm e)))
 
   module _ (f : Facts s) (known : row < tasks s .rows) (rows : tasks s .rows ≡ s .count) where
-    -- in a sound session the other rows ask for no more than V leaves them,
+    -- in a sound session the other rows ask for no more than V takes off for them,
     asked-upto : asked ≤ interference (tasks s) row (tasks s .D row)
     asked-upto =
         let r = facts-fit s f .row row known in
@@ -131,31 +131,28 @@ module _ (s : Session) (k : ℕ) where
     pub arrived-sound : sound withArrived ≡ true
     arrived-sound = sound-of withArrived arrived-facts
 
--- accepted or refused, an arrival leaves a session as sound as it was
-pub arrive-sound : (s : Session) (row : ℕ) → length (s .jobs) ≡ 16 → length (s .words) ≡ 48 → sound (arriveOf s row .session) ≡ sound s
+-- what an arrival leaves: the session as it was, or with the job
+left-by : (s : Session) (row : ℕ) (P : Session → Type 0) → P s → (sound s ≡ true → row < s .count → P (withArrived s row)) → P (arriveOf s row .session)
 unfolding arriveOf arriveIn
-arrive-sound s row jobs words =
+left-by s row P same new =
     both (sound s)
-    (λ e. both (leb (s .count) row) (λ a. simp (e, a))
-    (λ a. both (ltb (s .clock) (jobAt s row .next)) (λ b. simp (e, a, b))
-    (λ b.
-    let f = facts-of s e in
-    simp (e, a, b) (arrived-sound s row (omega (arith, f .few)) (rows-count s (f .few) words) f (leb-false _ _ a)))))
-    (λ e. simp e)
+    (λ e. both (leb (s .count) row) (λ a. simp (e, a) same)
+    (λ a. both (ltb (s .clock) (jobAt s row .next)) (λ b. simp (e, a, b) same) (λ b. simp (e, a, b) (new e (leb-false _ _ a)))))
+    (λ e. simp e same)
 
--- and keeps its table
+-- so it is as sound as it was,
+pub arrive-sound : (s : Session) (row : ℕ) → length (s .jobs) ≡ 16 → length (s .words) ≡ 48 → sound (arriveOf s row .session) ≡ sound s
+arrive-sound s row jobs words =
+    left-by s row (λ z. sound z ≡ sound s) refl
+    (λ e known.
+    let f = facts-of s e in
+    arrived-sound s row (omega (arith, f .few)) (rows-count s (f .few) words) f known ∙ sym e)
+
+-- and has the same table, with the same rows brittle
 pub arrive-rows : (s : Session) (row : ℕ) → rowsOf (arriveOf s row .session) ≡ rowsOf s
-unfolding arriveOf arriveIn rowsOf
-arrive-rows s row =
-    both (sound s)
-    (λ e. both (leb (s .count) row) (λ a. simp (e, a))
-    (λ a. both (ltb (s .clock) (jobAt s row .next)) (λ b. simp (e, a, b)) (λ b. simp (e, a, b))))
-    (λ e. simp e)
+unfolding rowsOf
+arrive-rows s row = left-by s row (λ z. rowsOf z ≡ rowsOf s) refl (λ e known. refl)
 
 pub arrive-marks : (s : Session) (row : ℕ) (m : List Bool) → Marks s m → Marks (arriveOf s row .session) m
-unfolding arriveOf arriveIn rowsOf
-arrive-marks s row m h =
-    both (sound s)
-    (λ e. both (leb (s .count) row) (λ a. simp (e, a) h)
-    (λ a. both (ltb (s .clock) (jobAt s row .next)) (λ b. simp (e, a, b) h) (λ b. simp (e, a, b) (record { at = h .at }))))
-    (λ e. simp e h)
+unfolding rowsOf
+arrive-marks s row m h = left-by s row (λ z. Marks z m) h (λ e known. record { at = h .at })
