@@ -113,3 +113,10 @@ write-back l n e =
     let c = chosen (plain l) (allDigits l && leb (valueFrom 0 l) 4294967295) (valueFrom 0 l) n e in
     let d = and-true (allDigits l) (leb (valueFrom 0 l) 4294967295) (c .1) in
     ap decimal (sym (c .2)) ∙ text-back l (c .0) (d .0)
+
+-- 32 bits hold it
+pub number-narrow : (l : List ℕ) (n : ℕ) → numberOf l ≡ Of n → n ≤ 4294967295
+unfolding numberOf digitsOf
+number-narrow l n e =
+    let c = chosen (plain l) (allDigits l && leb (valueFrom 0 l) 4294967295) (valueFrom 0 l) n e in
+    omega (arith, leb-true (valueFrom 0 l) 4294967295 (and-true (allDigits l) (leb (valueFrom 0 l) 4294967295) (c .1) .1), c .2)

@@ -1,4 +1,4 @@
--- Which candidate each number of a draw names, how long the chosen one may run, and that no word is divided by 0
+-- Which candidate each number of a draw names, how long the chosen one may run, that no word is divided by 0, and that no span is 0
 -- (docs/SPECIFICATION.md §5.4). Assumes nothing.
 use Prim.Native.Nat.{ℕ, _≤_, _<_}
 use mathlib.Core.Path.{_≡_, refl, sym, _∙_}
@@ -19,7 +19,7 @@ use Rattle.session.specs.Reading.{idle, jobAt, tasks, waits}
 use Rattle.session.specs.Order.{before, isHead, headOf, candidate, idles, candidates, position, rowWith, candidateAt}
 use Rattle.session.specs.Ranked.{rank-lower, rank-below, rank-apart, rank-with, rank-found, rank-none}
 use Rattle.session.specs.First.{is-head, head-waits}
-use Rattle.session.specs.Choose.{draw, contested, drawn, pickOf, room}
+use Rattle.session.specs.Choose.{draw, contested, drawn, pickOf, pickUsed, room, lengthDrawn, spanOf}
 use Rattle.session.specs.Facts.{Facts, facts-deadline}
 use Rattle.guarantee.specs.Draws.{candidateRows, Numbered, row, last, Numbering, Drawn, Divisors}
 use Rattle.guarantee.specs.KeepsTable.{most-le}
@@ -166,3 +166,10 @@ idle-room s f j l w =
 pub divisors : (s : Session) → Facts s → (l : List ℕ) → Divisors s l
 divisors s f l =
     record { pick = contested-two s; span = may-room s (f .few) (pickOf s l) (pick-may s (f .few) l) }
+
+-- ---- a span is at least 1, so that a choice is in force after it
+
+pub span-some : (s : Session) → Facts s → (l : List ℕ) → 1 ≤ spanOf s l (pickUsed s l) (pickOf s l)
+unfolding spanOf
+span-some s f l =
+    both (lengthDrawn s l (pickUsed s l) (pickOf s l)) (λ e. simp e (omega arith)) (λ e. simp e (divisors s f l .span))

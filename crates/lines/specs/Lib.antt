@@ -3,3 +3,4 @@ pub mod Line
 pub mod Code
 pub mod Lines
 pub mod Text
+pub mod Input

@@ -156,7 +156,7 @@ pub lines-end : (l : List ℕ) → linesOf (drop (length l) l) ≡ []
 unfolding linesOf parted
 lines-end l = rw (drop-length l)
 
-lines-cons : (p : List ℕ) (l : List (List ℕ)) → (l ≡ [] → ⊥) → linesIn (p ∷ l) ≡ lineOf p ∷ linesIn l
+pub lines-cons : (p : List ℕ) (l : List (List ℕ)) → (l ≡ [] → ⊥) → linesIn (p ∷ l) ≡ lineOf p ∷ linesIn l
 lines-cons p [] h = absurd (h refl)
 lines-cons p (q ∷ l) h = refl
 

@@ -8,8 +8,8 @@ ghost use Rattle.lines.specs.Text.{headText, lineText};
 use decimal::write::put_byte;
 use decimal::write::put_number;
 
-// A letter and a tab.
-fn put_letter(out: &mut [u8], at: usize, letter: u8) -> usize
+// A letter and a tab. Internal: the caller has seen to the room.
+pub fn put_letter(out: &mut [u8], at: usize, letter: u8) -> usize
     requires { ⌜ at + 2 ≤ length (now out) ⌝ }
     ensures { λ r. ⌜ Wrote 2 (letter ∷ 9 ∷ []) (now (out .entry)) (now (out .exit)) at r ⌝ }
 {

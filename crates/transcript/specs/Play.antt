@@ -97,15 +97,15 @@ told-is clock letter a n d e at q s w = rw (s .number, s .first, s .second) at w
 
 -- ---- the words that wait
 
-module _ (w : List ℕ) (p : Play) (order : p .from ≤ p .to) (within : p .to ≤ length w) where
-  queue-length : length (queueOf w p) ≡ p .to - p .from
-  queue-length = length-slice (p .from) (p .to) w within
+module _ (w : List ℕ) (from to : ℕ) (order : from ≤ to) (within : to ≤ length w) where
+  pub queue-length : length (drop from (take to w)) ≡ to - from
+  queue-length = length-slice from to w within
 
   -- a word more
-  queue-push : (x : ℕ) → p .to < length w → drop (p .from) (take (p .to + 1) (set w (p .to) x)) ≡ queueOf w p ++ x ∷ []
+  pub queue-push : (x : ℕ) → to < length w → drop from (take (to + 1) (set w to x)) ≡ drop from (take to w) ++ x ∷ []
   queue-push x h =
-      rw (add-one, take-suc-set w (p .to) x h)
-      (drop-append-le (p .from) (take (p .to) w) (x ∷ []) (omega (arith, length-take-le (p .to) w within)))
+      rw (add-one, take-suc-set w to x h)
+      (drop-append-le from (take to w) (x ∷ []) (omega (arith, length-take-le to w within)))
 
 -- a part of a slice
 pub part-is : (f t : ℕ) (l : List ℕ) → take (t - f) (drop f l) ≡ drop f (take t l)
@@ -139,13 +139,13 @@ module _ (clock : ℕ) (p : Play) (w : ℕ) (words before : List ℕ) (ready : R
   unfolding stepOf
   word-queued h k =
       let f : ltb (length (queueOf words p)) queueLimit ≡ true =
-      lt-ltb (length (queueOf words p)) queueLimit (omega (arith, queue-length words p (ready .order) (ready .within))) in
+      lt-ltb (length (queueOf words p)) queueLimit (omega (arith, queue-length words (p .from) (p .to) (ready .order) (ready .within))) in
       record {
         did = λ s e.
             rw f record {
               wrote = wrote-none 86 before (p .end);
               session = refl;
-              queue = queue-push words p (ready .order) (ready .within) w h;
+              queue = queue-push words (p .from) (p .to) (ready .order) (ready .within) w h;
               order = omega (arith, ready .order);
               most = omega arith;
               over = refl;
@@ -160,7 +160,7 @@ module _ (clock : ℕ) (p : Play) (w : ℕ) (words before : List ℕ) (ready : R
   unfolding stepOf
   word-full r after k u =
       let f : ltb (length (queueOf words p)) queueLimit ≡ false =
-      le-ltb (length (queueOf words p)) queueLimit (omega (arith, queue-length words p (ready .order) (ready .within))) in
+      le-ltb (length (queueOf words p)) queueLimit (omega (arith, queue-length words (p .from) (p .to) (ready .order) (ready .within))) in
       record { did = λ s e. rw f (did-unread p r words before after (ready .order) s (rw e u) 1) }
 
 pub ruleset word-cases = (word-queued, word-full)
@@ -191,7 +191,7 @@ none-used true x y e f = e
 none-used false x y e f = f
 
 -- no more words are used than there are; only a choice uses any
-call-used : (s : Session) (q : List ℕ) (c : Call) → callOf s q c .used ≤ length q
+pub call-used : (s : Session) (q : List ℕ) (c : Call) → callOf s q c .used ≤ length q
 unfolding callOf arriveOf arriveIn chooseOf chooseIn advanceOf advanceIn finishOf finishIn
 call-used s q (Arrive row) =
     let z : arriveOf s row .used ≡ 0 =
@@ -215,7 +215,7 @@ module _ (s : Session) (c : Call) (p : Play) (l words before : List ℕ) (ready 
     (f : o ≡ callOf s l c) where
   pub used-order : p .from + o .used ≤ p .to
   used-order =
-      omega (arith, ready .order, ap length e, queue-length words p (ready .order) (ready .within), call-used s l c, ap (λ (z : Outcome). z .used) f)
+      omega (arith, ready .order, ap length e, queue-length words (p .from) (p .to) (ready .order) (ready .within), call-used s l c, ap (λ (z : Outcome). z .used) f)
 
   pub did-call : (letter : ℕ) (r : Play) (after : List ℕ) → letter ≡ letterOf c → Told (answerText (o .session .clock) letter (o .answer)) (o .used) p r before after
       → Did 0 (stepOf s (queueOf words p) (p .line) (CallLine c)) (o .session) p r words words before after

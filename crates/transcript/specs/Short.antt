@@ -21,11 +21,10 @@ use Rattle.session.specs.declared.Session.{Session}
 use Rattle.session.specs.declared.Answer.{Answer}
 use Rattle.session.specs.declared.Answer.the-variants.{Arrived, Chosen, Advanced, Finished, Unsound, NoRow, TooEarly, InForce, NoChoice, BadStep, Idling, ClockEnd}
 use Rattle.session.specs.Reading.{idle}
-use Rattle.session.specs.Choose.{pickOf, pickUsed, spanOf, lengthDrawn}
 use Rattle.session.specs.Calls.{shown, chooseOf, chooseIn, finishOf, finishIn}
 use Rattle.session.specs.Facts.{facts-of}
 use Rattle.guarantee.specs.KeepsChoice.{in-force, running}
-use Rattle.guarantee.specs.Exact.{divisors}
+use Rattle.guarantee.specs.Exact.{span-some}
 use Rattle.transcript.specs.Step.{queueLimit, callOf, answerText, stepOf}
 use Rattle.transcript.specs.Kept.{Kept, kept-call}
 
@@ -50,13 +49,6 @@ pub record Small (a : Answer) : Type 0 where
   pub first : shown a .first ≤ horizon
   pub second : shown a .second ≤ horizon
 
--- a span is at least 1, so that a choice is in force after it
-span-some : (s : Session) → Kept s → (l : List ℕ) → 1 ≤ spanOf s l (pickUsed s l) (pickOf s l)
-unfolding spanOf
-span-some s g l =
-    let d = divisors s (facts-of s (g .sound)) l in
-    both (lengthDrawn s l (pickUsed s l) (pickOf s l)) (λ e. simp e (omega arith)) (λ e. simp e (d .span))
-
 -- what a choice in force names and how long it lasts
 chosen-small : (s : Session) → Kept s → 1 ≤ s .span → (s .chosen ≤ horizon) × (s .span ≤ horizon)
 chosen-small s g h =
@@ -71,7 +63,7 @@ choose-small s g q =
     (λ e. let k = chosen-small s g (ltb-true 0 (s .span) e) in simp (g .sound, e) record { first = k .1; second = omega arith })
     (λ e.
     let after : Kept (chooseOf s q .session) = kept-call s g q Choose in
-    let k = chosen-small (chooseOf s q .session) after (simp (g .sound, e) (span-some s g q)) in
+    let k = chosen-small (chooseOf s q .session) after (simp (g .sound, e) (span-some s (facts-of s (g .sound)) q)) in
     let m = simp (g .sound, e) at k in
     simp (g .sound, e) record { first = m .0; second = m .1 })
 

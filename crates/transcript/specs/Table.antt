@@ -43,16 +43,16 @@ pub record Reading (l : List ℕ) (t : Rows) : Type 0 where
 pub reading-start : (l : List ℕ) → Reading l (record { words = replicate 48 0; count = 0; at = 0 })
 reading-start l = record { rows = refl; rest = refl; places = refl; few = omega arith; within = omega arith; size = omega arith }
 
-rows-none : (k : ℕ) → rowsIn k [] ≡ []
+pub rows-none : (k : ℕ) → rowsIn k [] ≡ []
 rows-none zero = refl
 rows-none (suc k) = refl
 
-after-none : (k : ℕ) → afterRows k [] ≡ []
+pub after-none : (k : ℕ) → afterRows k [] ≡ []
 after-none zero = refl
 after-none (suc k) = refl
 
 -- a line that is no row ends the table
-rows-other : (k : ℕ) (x : Line) (m : List Line) → ((c p d : ℕ) → x ≡ Row c p d → ⊥) → rowsIn k (x ∷ m) ≡ []
+pub rows-other : (k : ℕ) (x : Line) (m : List Line) → ((c p d : ℕ) → x ≡ Row c p d → ⊥) → rowsIn k (x ∷ m) ≡ []
 rows-other zero x m ne = refl
 rows-other (suc k) (Row c p d) m ne = absurd (ne c p d refl)
 rows-other (suc k) (Word w) m ne = refl
@@ -60,7 +60,7 @@ rows-other (suc k) (Call c) m ne = refl
 rows-other (suc k) Empty m ne = refl
 rows-other (suc k) Unreadable m ne = refl
 
-after-other : (k : ℕ) (x : Line) (m : List Line) → ((c p d : ℕ) → x ≡ Row c p d → ⊥) → afterRows k (x ∷ m) ≡ x ∷ m
+pub after-other : (k : ℕ) (x : Line) (m : List Line) → ((c p d : ℕ) → x ≡ Row c p d → ⊥) → afterRows k (x ∷ m) ≡ x ∷ m
 after-other zero x m ne = refl
 after-other (suc k) (Row c p d) m ne = absurd (ne c p d refl)
 after-other (suc k) (Word w) m ne = refl

@@ -5,7 +5,7 @@ use std::fmt;
 use crate::comparison::Reached;
 use crate::opinions::{parts, run, Part, INPUT_LIMIT};
 use crate::table::ROW_LIMIT;
-use crate::tally::too_rare;
+use crate::tally::{add_all, too_rare};
 use crate::text::{read_line, Command};
 
 /// A table of an input.
@@ -189,12 +189,6 @@ impl PartTally {
         for (count, has) in self.inputs_with.iter_mut().zip(has) {
             *count += u64::from(has);
         }
-    }
-}
-
-fn add_all<const N: usize>(sums: &mut [u64; N], counts: [u64; N]) {
-    for (sum, count) in sums.iter_mut().zip(counts) {
-        *sum += count;
     }
 }
 

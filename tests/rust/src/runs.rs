@@ -142,7 +142,7 @@ fn accepted_call(session: &Session, rng: &mut Rng, style: Style) -> Command {
     if !meeting.is_empty() && rng.chance(1, 2) {
         return Command::Arrive(rng.pick(&meeting));
     }
-    let ready = ready_rows(session);
+    let ready = session.ready_rows();
     if !ready.is_empty() && rng.chance(style.arrivals, 8) {
         return Command::Arrive(rng.pick(&ready));
     }
@@ -158,18 +158,11 @@ fn run_or_choose(session: &Session, rng: &mut Rng, style: Style) -> Command {
     }
 }
 
-/// The rows that may arrive now.
-fn ready_rows(session: &Session) -> Vec<u32> {
-    (0..session.slots.len() as u32)
-        .filter(|row| session.slots[*row as usize].next <= session.clock)
-        .collect()
-}
-
 /// The rows whose job, if it arrived now, would share its deadline with
 /// another.
 fn meeting_rows(session: &Session) -> Vec<u32> {
     let due = |row: u32| session.clock + u64::from(session.rows[row as usize].deadline);
-    let mut rows = ready_rows(session);
+    let mut rows = session.ready_rows();
     rows.retain(|row| session.waiting().any(|job| job.due == due(*row)));
     rows
 }
@@ -193,7 +186,7 @@ fn timed_command(machine: &Machine, rng: &mut Rng, style: Style) -> Command {
 /// Lets a job arrive whose deadline another can meet later; where there is
 /// none, any that may.
 fn first_arrival(session: &Session, rng: &mut Rng, style: Style) -> Command {
-    let ready = ready_rows(session);
+    let ready = session.ready_rows();
     let mut first = ready.clone();
     first.retain(|row| can_be_met(session, *row));
     if !first.is_empty() {
@@ -233,7 +226,7 @@ fn patient_command(machine: &Machine, rng: &mut Rng) -> Command {
 /// it: mostly of the last candidate, whose span is often the least budget.
 fn giving_command(machine: &Machine, rng: &mut Rng) -> Command {
     let Machine { session, words } = machine;
-    let ready = ready_rows(session);
+    let ready = session.ready_rows();
     match session.choice {
         Some(choice) if later_job_waits(session, choice) && rng.chance(3, 4) => Command::Finish,
         Some(choice) => Command::Advance(accepted_ticks(session, rng, choice.left)),
@@ -251,7 +244,7 @@ fn giving_command(machine: &Machine, rng: &mut Rng) -> Command {
 /// with many candidates.
 fn drawing_command(machine: &Machine, rng: &mut Rng, style: Style) -> Command {
     let Machine { session, words } = machine;
-    let ready = ready_rows(session);
+    let ready = session.ready_rows();
     if !ready.is_empty() && rng.chance(3, 4) {
         return Command::Arrive(rng.pick(&ready));
     }
@@ -268,7 +261,7 @@ fn drawing_command(machine: &Machine, rng: &mut Rng, style: Style) -> Command {
 /// arrival can drop the choice in force at such a moment.
 fn limiting_command(machine: &Machine, rng: &mut Rng, style: Style) -> Command {
     let Machine { session, words } = machine;
-    let ready = ready_rows(session);
+    let ready = session.ready_rows();
     let mut others = ready.clone();
     others.retain(|row| !session.is_brittle(*row as usize));
     let kept_back = usize::from(session.waiting().count() >= 2);
@@ -306,7 +299,7 @@ fn counting_command(machine: &Machine, rng: &mut Rng, style: Style) -> Command {
         return Command::Arrive(rng.pick(&late));
     }
     let is_free = session.waiting().next().is_none();
-    let mut ready = ready_rows(session);
+    let mut ready = session.ready_rows();
     ready.sort_by_key(|row| session.rows[*row as usize].deadline);
     if let [shortest, .., longest] = ready[..] {
         if rng.chance(if is_free { 7 } else { 3 }, 8) {
@@ -350,7 +343,7 @@ fn late_moments(session: &Session) -> Vec<(u32, u64)> {
 
 /// The rows that may arrive now, of which another job counted an earlier arrival.
 fn late_rows(session: &Session) -> Vec<u32> {
-    let ready = ready_rows(session);
+    let ready = session.ready_rows();
     let moments = late_moments(session).into_iter();
     let late = moments.filter(|(row, moment)| ready.contains(row) && *moment <= session.clock);
     late.map(|(row, _)| row).collect()

@@ -129,6 +129,19 @@ impl Session {
         brittle.map(|row| self.next_deadline(row)).min()
     }
 
+    /// The rows that may arrive now.
+    pub fn ready_rows(&self) -> Vec<u32> {
+        (0..self.slots.len() as u32)
+            .filter(|row| self.slots[*row as usize].next <= self.clock)
+            .collect()
+    }
+
+    /// The least of all rows' earliest next arrivals.
+    pub fn next_arrival(&self) -> u64 {
+        let nexts = self.slots.iter().map(|slot| slot.next);
+        nexts.min().expect("a table has rows")
+    }
+
     /// The earliest deadline that the next job of a row can have.
     pub fn next_deadline(&self, row: usize) -> u64 {
         self.clock.max(self.slots[row].next) + u64::from(self.rows[row].deadline)

@@ -82,6 +82,16 @@ impl fmt::Display for Tally {
     }
 }
 
+/// Adds counts to sums, place by place.
+pub fn add_all<const N: usize>(sums: &mut [u64; N], counts: [u64; N]) {
+    for (sum, count) in sums.iter_mut().zip(counts) {
+        *sum += count;
+    }
+}
+
+/// One in so many: there must be one, if only one.
+pub const ONCE: u64 = 1 << 32;
+
 /// Which of these counts are below one in so many of all inputs, in words. Each
 /// has that number and what the counted inputs do.
 pub fn too_rare(inputs: u64, counts: &[(u64, u64, &str)]) -> Vec<String> {

@@ -1,6 +1,6 @@
-//! Times a program against the model: `shuffle` on the heaviest inputs, or `opinions`, with
-//! `--set opinions`, on files of 16-row tables. It keeps the inputs in a folder for other
-//! measurements.
+//! Times a program against the model: `shuffle` on the heaviest inputs; or `opinions`, with
+//! `--set opinions`, on files of 16-row tables; or `load`, with `--set load`, on seeds. It
+//! keeps the inputs in a folder for other measurements.
 
 use std::fs;
 use std::io::{self, Write};
@@ -9,13 +9,16 @@ use std::process::{self, Stdio};
 use std::time::Instant;
 
 use shuffle_model::calls::{candidates, lengths, limit, WORDS};
+use shuffle_model::comparison::Model;
 use shuffle_model::driver::{table_text, Driver};
 use shuffle_model::opinions;
 use shuffle_model::options::{fail, Options};
+use shuffle_model::seeds::line;
 use shuffle_model::session::IDLE;
 use shuffle_model::sixteen::{tables, CLASSES};
 use shuffle_model::table::{Kind, Row};
 use shuffle_model::text::{leading_rows, run, Command, INPUT_LIMIT};
+use shuffle_model::trials::load;
 
 fn main() {
     let options = Options::read(&["--program", "--model", "--inputs", "--runs", "--set"]);
@@ -23,6 +26,7 @@ fn main() {
     let (model, inputs): (Model, _) = match options.text("--set").unwrap_or("shuffle") {
         "shuffle" => (run, inputs()),
         "opinions" => (opinions::run, desks()),
+        "load" => (load, seeds()),
         set => fail(&format!("--set: {set} is no set of inputs")),
     };
     let bench = Bench {
@@ -41,7 +45,6 @@ fn main() {
     }
 }
 
-type Model = fn(&[u8]) -> Vec<u8>;
 /// An input and its name.
 type Named = (&'static str, Vec<u8>);
 
@@ -146,6 +149,16 @@ fn desk(tables: &[Vec<Row>]) -> Vec<u8> {
     text
 }
 
+/// A seed with the least rows, one with some and one with the most.
+fn seeds() -> Vec<Named> {
+    let seeds = [
+        ("seed of 5 rows", 1_000_000),
+        ("seed of 8 rows", 123_456_787),
+        ("seed of 12 rows", u32::MAX),
+    ];
+    seeds.map(|(name, seed)| (name, line(seed))).to_vec()
+}
+
 fn inputs() -> Vec<Named> {
     let inputs = shuffle_inputs();
     for (name, input) in &inputs {
@@ -214,9 +227,7 @@ fn advance(driver: &mut Driver) {
     let session = &driver.machine.session;
     let choice = session.choice.expect("a choice was made");
     let ticks = if choice.row == IDLE {
-        let nexts = session.slots.iter().map(|slot| slot.next);
-        let next = nexts.min().expect("a table has rows");
-        choice.left.min(next - session.clock)
+        choice.left.min(session.next_arrival() - session.clock)
     } else {
         choice.left
     };

@@ -1,0 +1,14 @@
+pub mod Numbers
+pub mod Table
+pub mod Trial
+pub mod Statement
+pub mod Loose
+pub mod Stands
+pub mod Runs
+pub mod Printed
+pub mod Theorems
+pub mod Seed
+pub mod Rows
+pub mod Line
+pub mod Play
+pub mod Entry
