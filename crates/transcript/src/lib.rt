@@ -10,7 +10,7 @@ use report::least;
 
 pub mod opening;
 mod play;
-mod rows;
+pub mod rows;
 pub mod step;
 
 // How many bytes of the input are read.

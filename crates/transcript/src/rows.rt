@@ -1,4 +1,5 @@
-// The table: the `T` lines before any other line, 16 at most (docs/SPECIFICATION.md §8.4).
+// The table: the `T` lines before any other line, 16 at most (docs/SPECIFICATION.md §8.4). Internal: `Rows` and `with_row` are public for
+// `workload`, which writes such lines.
 ghost use mathlib.Core.Path.{_≡_};
 ghost use Prim.Native.Nat.{_<_};
 ghost use Rattle.transcript.specs.Table.{Stated, withRow};
@@ -12,7 +13,8 @@ pub struct Rows {
     pub at: usize,
 }
 
-fn with_row(t: Rows, run: u32, period: u32, deadline: u32, at: usize) -> Rows
+// Internal: its callers have seen that there is room for a row.
+pub fn with_row(t: Rows, run: u32, period: u32, deadline: u32, at: usize) -> Rows
     requires { ⌜ t .count < 16 ⌝ }
     ensures { λ r. ⌜ r ≡ withRow t run period deadline at ⌝ }
 {

@@ -15,13 +15,13 @@ use Rattle.report.specs.Whole.{Filled, tooShort, printed}
 use Rattle.table.specs.Verdict.{opinionOf}
 use Rattle.session.specs.declared.Session.{Session}
 use Rattle.session.specs.Start.{noSession, freshOf, sessionOf, start-fresh}
-use Rattle.workload.specs.declared.rows.Table.{Table}
+use Rattle.transcript.specs.declared.rows.Rows.{Rows}
 use Rattle.workload.specs.Table.{rowCount, rowsOfSeed, tableOf}
-use Rattle.workload.specs.Trial.{trialLines, callLines, trialOf, room, textOf, seedOf, loadOf}
+use Rattle.workload.specs.Trial.{trialLines, callLines, trialOf, trialRoom, textOf, seedOf, loadOf}
 use Rattle.workload.specs.Loose.{count-few, every-heavy}
 use Rattle.workload.specs.Rows.{Tabled}
 
-module _ (seed : ℕ) (t : Table) (before middle : List ℕ) (h : room ≤ length before) (d : Tabled seed t before middle) where
+module _ (seed : ℕ) (t : Rows) (before middle : List ℕ) (h : trialRoom ≤ length before) (d : Tabled seed t before middle) where
   -- every table of a seed is loose
   pub trial-fresh : (s : Session) (l : List ℕ) → l ≡ take (3 * t .count) (t .words) → s ≡ freshOf l 1 → s ≡ sessionOf (tableOf seed)
   trial-fresh s l e f =
@@ -34,41 +34,41 @@ module _ (seed : ℕ) (t : Table) (before middle : List ℕ) (h : room ≤ lengt
   fits = omega (arith, d .wrote .short, count-few seed)
 
   same : length middle ≡ length before
-  same = wrote-length (65 * rowCount seed) (inputText (rowLines (rowsOfSeed seed))) before middle 0 (t .end) fits (d .wrote)
+  same = wrote-length (65 * rowCount seed) (inputText (rowLines (rowsOfSeed seed))) before middle 0 (t .at) fits (d .wrote)
 
-  pub trial-room : t .end + 65 * (trialLines - rowCount seed) ≤ length middle
+  pub trial-room : t .at + 65 * (trialLines - rowCount seed) ≤ length middle
   trial-room = omega (arith, same, d .wrote .place, d .wrote .short, count-few seed)
 
-  pub trial-written : (after : List ℕ) (r : ℕ) → Wrote (65 * (trialLines - rowCount seed)) (inputText (callLines seed)) middle after (t .end) r
-      → Wrote room (textOf seed) before after 0 r
+  pub trial-written : (after : List ℕ) (r : ℕ) → Wrote (65 * (trialLines - rowCount seed)) (inputText (callLines seed)) middle after (t .at) r
+      → Wrote trialRoom (textOf seed) before after 0 r
   unfolding textOf trialOf
   trial-written after r w =
       rw (text-append (rowLines (rowsOfSeed seed)) (callLines seed))
-      (wrote-within (65 * rowCount seed + 65 * (trialLines - rowCount seed)) room _ before after 0 r (omega (arith, count-few seed))
+      (wrote-within (65 * rowCount seed + 65 * (trialLines - rowCount seed)) trialRoom _ before after 0 r (omega (arith, count-few seed))
       (wrote-more (65 * rowCount seed) (65 * (trialLines - rowCount seed)) (inputText (rowLines (rowsOfSeed seed))) (inputText (callLines seed))
-      before middle after 0 (t .end) r fits (d .wrote) w))
+      before middle after 0 (t .at) r fits (d .wrote) w))
 
 pub ruleset trial-laws = (trial-fresh, trial-room, trial-written)
 
 -- ---- the entry points
 
-pub generate-short : (seed : ℕ) (before : List ℕ) → length before < 32500 → Filled room (textOf seed) before before 0
+pub generate-short : (seed : ℕ) (before : List ℕ) → length before < 32500 → Filled trialRoom (textOf seed) before before 0
 generate-short seed before h = tooShort h refl refl
 
-pub generate-done : (seed : ℕ) (before after : List ℕ) (r : ℕ) → 32500 ≤ length before → Wrote room (textOf seed) before after 0 r
-    → Filled room (textOf seed) before after r
+pub generate-done : (seed : ℕ) (before after : List ℕ) (r : ℕ) → 32500 ≤ length before → Wrote trialRoom (textOf seed) before after 0 r
+    → Filled trialRoom (textOf seed) before after r
 generate-done seed before after r h w = printed h w
 
 pub ruleset generate-cases = (generate-short, generate-done)
 
-pub load-seed : (input before after : List ℕ) (n : Number) (seed r : ℕ) → n ≡ seedOf input → n ≡ Of seed → Filled room (textOf seed) before after r
-    → Filled room (loadOf input) before after r
+pub load-seed : (input before after : List ℕ) (n : Number) (seed r : ℕ) → n ≡ seedOf input → n ≡ Of seed → Filled trialRoom (textOf seed) before after r
+    → Filled trialRoom (loadOf input) before after r
 unfolding loadOf
 load-seed input before after n seed r e f w = rw (sym e ∙ f) w
 
-pub load-none : (input before : List ℕ) (n : Number) → n ≡ seedOf input → n ≡ None → Filled room (loadOf input) before before 0
+pub load-none : (input before : List ℕ) (n : Number) → n ≡ seedOf input → n ≡ None → Filled trialRoom (loadOf input) before before 0
 unfolding loadOf
 load-none input before n e f =
-    rw (sym e ∙ f) (dite (decLt (length before) room) (λ l. tooShort l refl refl) (λ l. printed (omega arith) (wrote-none room before 0)))
+    rw (sym e ∙ f) (dite (decLt (length before) trialRoom) (λ l. tooShort l refl refl) (λ l. printed (omega arith) (wrote-none trialRoom before 0)))
 
 pub ruleset load-cases = (load-seed, load-none)

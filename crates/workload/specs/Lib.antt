@@ -4,7 +4,7 @@ pub mod Trial
 pub mod Statement
 pub mod Loose
 pub mod Stands
-pub mod Runs
+pub mod Accepted
 pub mod Printed
 pub mod Theorems
 pub mod Seed

@@ -95,4 +95,3 @@ module _ (s : Session) (number : ℕ) (given : Bool) (row n : ℕ) (e : row ≡ 
     says-word w h f g = rw g (sym (simp (none-ready, le-ltb 0 (s .span) h, f)))
 
 pub ruleset line-cases = (says-arrive, says-advance, says-choose, says-word)
-

@@ -33,7 +33,7 @@ unfolding rowCount digitOf
 count-few seed = (omega arith, omega arith)
 
 -- row i of n rows: about 4 (n + i) ticks apart, of which it takes 3 or 4
-pub record Bounds (n i c t d : ℕ) : Type 0 where
+pub record RowBounds (n i c t d : ℕ) : Type 0 where
   pub run : 3 ≤ c
   pub brief : c ≤ 4
   pub due : 4 * (n + i) ≤ d
@@ -41,7 +41,7 @@ pub record Bounds (n i c t d : ℕ) : Type 0 where
   pub apart : d ≤ t
   pub often : t ≤ 4 * (n + i) + 3
 
-pub row-bounds : (seed i : ℕ) → Bounds (rowCount seed) i (rowOf seed i .0) (rowOf seed i .1) (rowOf seed i .2)
+pub row-bounds : (seed i : ℕ) → RowBounds (rowCount seed) i (rowOf seed i .0) (rowOf seed i .1) (rowOf seed i .2)
 unfolding rowOf rowBy digitOf
 row-bounds seed i = record {
   run = omega arith;
@@ -93,18 +93,18 @@ words-at seed (suc k) i j l h =
 abbrev leastDemand : ℕ → ℕ → ℕ
 leastDemand n i = 3 * jobsBy (4 * (n + i) + 3) (4 * (n + i) + 3) horizon
 
-unfoldable enough : ℕ → Bool
-enough q = leb 500000 (sumTo (leastDemand (5 + q)) (5 + q))
+unfoldable heavyEnough : ℕ → Bool
+heavyEnough q = leb 500000 (sumTo (leastDemand (5 + q)) (5 + q))
 
-all-enough : allTo enough 8 ≡ true
-unfolding allTo enough sumTo jobsBy gate
-all-enough = refl
+all-heavy : allTo heavyEnough 8 ≡ true
+unfolding allTo heavyEnough sumTo jobsBy gate
+all-heavy = refl
 
-enough-at : (n : ℕ) → 5 ≤ n → n ≤ 12 → 500000 ≤ sumTo (leastDemand n) n
-unfolding enough
-enough-at n a b =
+heavy-at : (n : ℕ) → 5 ≤ n → n ≤ 12 → 500000 ≤ sumTo (leastDemand n) n
+unfolding heavyEnough
+heavy-at n a b =
     let q : 5 + (n - 5) ≡ n = omega arith in
-    rw q at (leb-true 500000 (sumTo (leastDemand (5 + (n - 5))) (5 + (n - 5))) (all-at enough 8 all-enough (n - 5) (omega arith)))
+    rw q at (leb-true 500000 (sumTo (leastDemand (5 + (n - 5))) (5 + (n - 5))) (all-at heavyEnough 8 all-heavy (n - 5) (omega arith)))
 
 -- ---- the table
 
@@ -123,7 +123,7 @@ module _ (seed : ℕ) where
   unfolding tasksOf
   table-rows = omega (arith, table-length)
 
-  pub table-bounds : (i : ℕ) → i < n → Bounds n i (τ .C i) (τ .T i) (τ .D i)
+  pub table-bounds : (i : ℕ) → i < n → RowBounds n i (τ .C i) (τ .T i) (τ .D i)
   unfolding tasksOf tableOf
   table-bounds i l =
       let first : 3 * i ≡ 3 * i + 0 = omega arith in
@@ -164,7 +164,7 @@ module _ (seed : ℕ) where
             (ceil-least (τ .D i) (τ .T j) 1 some (within u a b)),
       ))
     where
-      within : ¬ (j < i) → Bounds n i (τ .C i) (τ .T i) (τ .D i) → Bounds n j (τ .C j) (τ .T j) (τ .D j) → τ .D i ≤ 1 * τ .T j
+      within : ¬ (j < i) → RowBounds n i (τ .C i) (τ .T i) (τ .D i) → RowBounds n j (τ .C j) (τ .T j) (τ .D j) → τ .D i ≤ 1 * τ .T j
       within u a b = dite (ℕ-discrete j i) (λ e. rw e (omega (arith, a .apart))) (λ ne. omega (arith, a .soon, b .apart, b .due))
 
   below-count : (i k : ℕ) → sumTo (λ j. gate (ltb j i) 1) k ≡ min i k
@@ -250,6 +250,6 @@ module _ (seed : ℕ) where
           arith,
           ap (sumTo (rowDemand τ horizon)) table-rows,
           sum-le (leastDemand n) (rowDemand τ horizon) n demanded,
-          enough-at n (count-few seed .0) (count-few seed .1),
+          heavy-at n (count-few seed .0) (count-few seed .1),
         );
   }

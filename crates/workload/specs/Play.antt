@@ -24,7 +24,7 @@ use Rattle.workload.specs.Table.{rowCount, tableOf}
 use Rattle.workload.specs.Trial.{Trial, trialLines, lineBy, lineFor, givenAfterCall, onward, linesFrom, trialStart, callLines}
 use Rattle.workload.specs.Loose.{count-few}
 use Rattle.workload.specs.Stands.{Stand, rows}
-use Rattle.workload.specs.Runs.{next-line, first-stand}
+use Rattle.workload.specs.Accepted.{next-line, first-stand}
 
 -- what p and all words queued so far stand for
 abbrev pub trialIn : Progress → List ℕ → Trial

@@ -21,14 +21,14 @@ use Rattle.report.specs.Text.{signedText, budgetText, budgetsText, opinionText}
 use Rattle.session.specs.Calls.{shown}
 use Rattle.transcript.specs.Step.{queueLimit, letterOf, callOf, answerText, stepOf, callsText}
 use Rattle.workload.specs.Trial.{Trial, onward}
-use Rattle.workload.specs.Statement.{thirdField, AllAccepted}
-use Rattle.workload.specs.Runs as runs
+use Rattle.workload.specs.Statement.{thirdField, Unrefused}
+use Rattle.workload.specs.Accepted as run
 
 -- ---- a text of such lines
 
 -- in front of any text of lines with number 0 it is one
 abbrev pub Fine : List ℕ → Type 0
-Fine t = (rest : List ℕ) → AllAccepted (parted 10 rest) → AllAccepted (parted 10 (t ++ rest))
+Fine t = (rest : List ℕ) → Unrefused (parted 10 rest) → Unrefused (parted 10 (t ++ rest))
 
 fine-none : Fine []
 fine-none rest a = a
@@ -36,11 +36,11 @@ fine-none rest a = a
 pub fine-more : (t u : List ℕ) → Fine t → Fine u → Fine (t ++ u)
 fine-more t u f g rest a = rw append-assoc (f (u ++ rest) (g rest a))
 
-pub fine-whole : (t : List ℕ) → Fine t → AllAccepted (parted 10 t)
+pub fine-whole : (t : List ℕ) → Fine t → Unrefused (parted 10 t)
 unfolding parted
 fine-whole t f = rw append-nil at (f [] refl)
 
-one-more : (p : List ℕ) (l : List (List ℕ)) → thirdField (parted 9 p) ≡ decimal 0 → AllAccepted l → AllAccepted (p ∷ l)
+one-more : (p : List ℕ) (l : List (List ℕ)) → thirdField (parted 9 p) ≡ decimal 0 → Unrefused l → Unrefused (p ∷ l)
 one-more p [] h a = absurd a
 one-more p (q ∷ l) h a = (h, a)
 
@@ -101,15 +101,15 @@ letter-plain (Advance n) = (refl, refl)
 letter-plain Finish = (refl, refl)
 
 -- of lines that are accepted one after another
-pub fine-calls : (x : Trial) (m : ℕ) (l : List Line) → runs.AllAccepted x l → Fine (callsText (x .session) (x .queue) m l)
+pub fine-calls : (x : Trial) (m : ℕ) (l : List Line) → run.AllAccepted x l → Fine (callsText (x .session) (x .queue) m l)
 unfolding callsText stepOf onward answerText lineText
 fine-calls x m [] a = fine-none
 fine-calls x m (y ∷ l) a = by (a .0) (fine-calls (onward x y) (suc m) l (a .1))
   where
-    by : {y : Line} → runs.Accepted x y → Fine (callsText (onward x y .session) (onward x y .queue) (suc m) l)
+    by : {y : Line} → run.Accepted x y → Fine (callsText (onward x y .session) (onward x y .queue) (suc m) l)
         → Fine (callsText (x .session) (x .queue) m (y ∷ l))
-    by (runs.queued w room) f = let q = lt-ltb (length (x .queue)) queueLimit room in simp q (simp q at f)
-    by (runs.answered c ok) f =
+    by (run.queued w room) f = let q = lt-ltb (length (x .queue)) queueLimit room in simp q (simp q at f)
+    by (run.answered c ok) f =
         let o = callOf (x .session) (x .queue) c in
         let k = letter-plain c in
         rw ok

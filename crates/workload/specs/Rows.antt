@@ -10,10 +10,11 @@ use Rattle.decimal.specs.Buffer.{Wrote, wrote-none, wrote-more, wrote-within, w
 use Rattle.lines.specs.declared.read.Line.{Line}
 use Rattle.lines.specs.declared.read.Line.the-variants.{Row}
 use Rattle.lines.specs.Input.{inputLine, inputText, text-append}
-use Rattle.table.specs.Words.{wordsWith, words-places, words-more}
+use Rattle.table.specs.Words.{words-places, words-more}
 use Rattle.report.specs.Rows.{rowLines, rowWords, lines-append, words-append}
 use Rattle.workload.specs.declared.rows.Row.{Row as RowOf}
-use Rattle.workload.specs.declared.rows.Table.{Table}
+use Rattle.transcript.specs.declared.rows.Rows.{Rows}
+use Rattle.transcript.specs.Table.{withRow}
 use Rattle.workload.specs.Table.{digitOf, rowCount, rowBy, rowOf, rowsTo, rowsOfSeed, tableOf}
 use Rattle.workload.specs.Loose.{count-few}
 
@@ -27,37 +28,29 @@ pub row-is : (n i q : ℕ) (r : RowOf) → r .run ≡ 3 + q % 2 → r .deadline 
 unfolding rowBy
 row-is n i q r a b c = record { run = a; period = omega arith; deadline = b }
 
--- one row more, with the place past its line
-abbrev pub withRow : Table → RowOf → ℕ → Table
-withRow t r end = record {
-  words = wordsWith (t .words) (t .count) (r .run) (r .period) (r .deadline);
-  count = t .count + 1;
-  end = end;
-}
-
 -- t is the table of the seed, and its lines stand at the start of the buffer
-pub record Tabled (seed : ℕ) (t : Table) (before after : List ℕ) : Type 0 where
+pub record Tabled (seed : ℕ) (t : Rows) (before after : List ℕ) : Type 0 where
   pub words : take (3 * t .count) (t .words) ≡ tableOf seed
   pub places : length (t .words) ≡ 48
   pub few : t .count ≤ 12
   pub count : t .count ≡ rowCount seed
-  pub wrote : Wrote (65 * rowCount seed) (inputText (rowLines (rowsOfSeed seed))) before after 0 (t .end)
+  pub wrote : Wrote (65 * rowCount seed) (inputText (rowLines (rowsOfSeed seed))) before after 0 (t .at)
 
 -- ---- the loop over the rows
 
 -- t has its first rows, of n
-pub record Tabling (seed n : ℕ) (before : List ℕ) (t : Table) (d : ℕ) (out : List ℕ) : Type 0 where
+pub record Tabling (seed n : ℕ) (before : List ℕ) (t : Rows) (d : ℕ) (out : List ℕ) : Type 0 where
   pub rows : n ≡ rowCount seed
   pub room : 780 ≤ length before
   pub few : t .count ≤ n
   pub digits : d ≡ seed / 8 ^ (t .count + 1)
   pub words : take (3 * t .count) (t .words) ≡ rowWords (rowsTo seed (t .count))
   pub places : length (t .words) ≡ 48
-  pub wrote : Wrote (65 * t .count) (inputText (rowLines (rowsTo seed (t .count)))) before out 0 (t .end)
+  pub wrote : Wrote (65 * t .count) (inputText (rowLines (rowsTo seed (t .count)))) before out 0 (t .at)
   pub same : length out ≡ length before
 
 pub tabling-start : (seed n d : ℕ) (before : List ℕ) → n ≡ 5 + seed % 8 → d ≡ seed / 8 → 780 ≤ length before
-    → Tabling seed n before (record { words = replicate 48 0; count = 0; end = 0 }) d before
+    → Tabling seed n before (record { words = replicate 48 0; count = 0; at = 0 }) d before
 unfolding rowCount digitOf rowsTo inputText
 tabling-start seed n d before e f h = record {
   rows = omega arith;
@@ -71,10 +64,10 @@ tabling-start seed n d before e f h = record {
 }
 
 -- one row less is left to do
-pub tabling-less : (t u : Table) (r : RowOf) (end n : ℕ) → t .count < n → u ≡ withRow t r end → n - u .count < n - t .count
+pub tabling-less : (t u : Rows) (r : RowOf) (end n : ℕ) → t .count < n → u ≡ withRow t (r .run) (r .period) (r .deadline) end → n - u .count < n - t .count
 tabling-less t u r end n l e = rw e (omega arith)
 
-module _ (seed n : ℕ) (before : List ℕ) (t : Table) (d : ℕ) (out : List ℕ) (now : Tabling seed n before t d out) where
+module _ (seed n : ℕ) (before : List ℕ) (t : Rows) (d : ℕ) (out : List ℕ) (now : Tabling seed n before t d out) where
   abbrev i : ℕ
   i = t .count
 
@@ -89,15 +82,15 @@ module _ (seed n : ℕ) (before : List ℕ) (t : Table) (d : ℕ) (out : List �
     pub tabling-place : i < 16
     tabling-place = omega (arith, now .rows, count-few seed)
 
-    pub tabling-room : t .end + 65 ≤ length out
+    pub tabling-room : t .at + 65 ≤ length out
     tabling-room = omega (arith, now .rows, now .room, now .same, now .wrote .place, now .wrote .short, count-few seed)
 
     row-now : rowBy n i (d % 8) ≡ rowOf seed i
     unfolding rowOf digitOf
     row-now = ap (λ (x : ℕ). rowBy n i (x % 8)) (now .digits) ∙ ap (λ (m : ℕ). rowBy m i (seed / 8 ^ (i + 1) % 8)) (now .rows)
 
-    pub tabling-next : (r : RowOf) (u : Table) (end : ℕ) (out′ : List ℕ) → RowIs n i (d % 8) r → u ≡ withRow t r end
-        → Wrote 65 (inputLine (Row (r .run) (r .period) (r .deadline))) out out′ (t .end) end
+    pub tabling-next : (r : RowOf) (u : Rows) (end : ℕ) (out′ : List ℕ) → RowIs n i (d % 8) r → u ≡ withRow t (r .run) (r .period) (r .deadline) end
+        → Wrote 65 (inputLine (Row (r .run) (r .period) (r .deadline))) out out′ (t .at) end
         → Tabling seed n before u (d / 8) out′
     unfolding rowsTo inputText
     tabling-next r u end out′ is e w =
@@ -109,7 +102,7 @@ module _ (seed n : ℕ) (before : List ℕ) (t : Table) (d : ℕ) (out : List �
         let more : inputText (rowLines (rowsTo seed (i + 1))) ≡ text ++ inputLine (Row (r .run) (r .period) (r .deadline)) =
         rw (add-one, lines-append (rowsTo seed i) (rowOf seed i ∷ []), text-append (rowLines (rowsTo seed i)) (rowLines (rowOf seed i ∷ [])), run, period, deadline)
         (ap (λ (x : List ℕ). text ++ x) (append-nil (inputLine (Row (rowOf seed i .0) (rowOf seed i .1) (rowOf seed i .2))))) in
-        let all = wrote-more (65 * i) 65 text line before out out′ 0 (t .end) end fits (now .wrote) w in
+        let all = wrote-more (65 * i) 65 text line before out out′ 0 (t .at) end fits (now .wrote) w in
         rw e (record {
           rows = now .rows;
           room = now .room;
@@ -123,7 +116,7 @@ module _ (seed n : ℕ) (before : List ℕ) (t : Table) (d : ℕ) (out : List �
               ∙ rw (now .words, run, period, deadline, add-one) (sym (words-append (rowsTo seed i) (rowOf seed i ∷ [])));
           places = words-places (t .words) i (r .run) (r .period) (r .deadline) ∙ now .places;
           wrote = rw more (wrote-within (65 * i + 65) (65 * (i + 1)) (text ++ line) before out′ 0 end (omega arith) all);
-          same = wrote-length 65 line out out′ (t .end) end (omega (arith, tabling-room, w .short)) w ∙ now .same;
+          same = wrote-length 65 line out out′ (t .at) end (omega (arith, tabling-room, w .short)) w ∙ now .same;
         })
 
   pub tabling-done : n ≤ i → Tabled seed t before out

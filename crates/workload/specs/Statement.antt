@@ -19,11 +19,11 @@ use Rattle.transcript.specs.Step.{letterOf}
 use Rattle.transcript.specs.Transcript.{inputLimit, rowLimit, rowsIn, outputOf}
 use Rattle.workload.specs.Numbers.{numbersFrom}
 use Rattle.workload.specs.Table.{tableOf}
-use Rattle.workload.specs.Trial.{trialLines, textOf, seedOf}
+use Rattle.workload.specs.Trial.{textOf, seedOf}
 
 -- the lines that `shuffle` reads in the trial
-abbrev pub linesIn : ℕ → List Line
-linesIn seed = linesOf (textOf seed)
+abbrev pub linesRead : ℕ → List Line
+linesRead seed = linesOf (textOf seed)
 
 -- `shuffle` reads all of it
 abbrev pub ReadWhole : Type 0
@@ -40,7 +40,7 @@ Readable (Empty ∷ l) = ⊥
 Readable (Unreadable ∷ l) = ⊥
 
 abbrev pub FiveHundred : Type 0
-FiveHundred = (seed : ℕ) → (length (linesIn seed) ≡ trialLines) × Readable (linesIn seed)
+FiveHundred = (seed : ℕ) → (length (linesRead seed) ≡ 500) × Readable (linesRead seed)
 
 -- ---- THE TABLE IS ADMITTED, AND ITS DEMAND AT 1,000,000 IS AT LEAST 500,000
 
@@ -50,7 +50,7 @@ pub record Heavy (l : List ℕ) : Type 0 where
   pub heavy : 500000 ≤ demand (tasksOf l) horizon
 
 abbrev pub HeavyTable : Type 0
-HeavyTable = (seed : ℕ) → (rowsIn rowLimit (linesIn seed) ≡ tableOf seed) × Heavy (tableOf seed)
+HeavyTable = (seed : ℕ) → (rowsIn rowLimit (linesRead seed) ≡ tableOf seed) × Heavy (tableOf seed)
 
 -- ---- AT LEAST 20 LINES EACH OF `A`, `W`, `G` AND `R`, AND NONE OF `F`
 
@@ -75,7 +75,7 @@ pub record Enough (l : List Line) : Type 0 where
   pub finishes : countOf 70 l ≡ 0
 
 abbrev pub EnoughEach : Type 0
-EnoughEach = (seed : ℕ) → Enough (linesIn seed)
+EnoughEach = (seed : ℕ) → Enough (linesRead seed)
 
 -- ---- EACH WORD IS THE NEXT NUMBER
 
@@ -89,7 +89,7 @@ wordsOf (Empty ∷ l) = wordsOf l
 wordsOf (Unreadable ∷ l) = wordsOf l
 
 abbrev pub WordsInTurn : Type 0
-WordsInTurn = (seed : ℕ) → wordsOf (linesIn seed) ≡ numbersFrom seed (length (wordsOf (linesIn seed)))
+WordsInTurn = (seed : ℕ) → wordsOf (linesRead seed) ≡ numbersFrom seed (length (wordsOf (linesRead seed)))
 
 -- ---- `shuffle` REFUSES NONE OF THE LINES
 
@@ -101,13 +101,13 @@ thirdField (p ∷ q ∷ []) = []
 thirdField (p ∷ q ∷ r ∷ l) = r
 
 -- of what is printed, by its parts between newlines: each line has the number 0, and nothing stands after the last newline
-abbrev pub AllAccepted : List (List ℕ) → Type 0
-AllAccepted [] = ⊥
-AllAccepted (p ∷ []) = p ≡ []
-AllAccepted (p ∷ q ∷ l) = (thirdField (parted 9 p) ≡ decimal 0) × AllAccepted (q ∷ l)
+abbrev pub Unrefused : List (List ℕ) → Type 0
+Unrefused [] = ⊥
+Unrefused (p ∷ []) = p ≡ []
+Unrefused (p ∷ q ∷ l) = (thirdField (parted 9 p) ≡ decimal 0) × Unrefused (q ∷ l)
 
 abbrev pub NoneRefused : Type 0
-NoneRefused = (seed : ℕ) → AllAccepted (parted 10 (outputOf (textOf seed)))
+NoneRefused = (seed : ℕ) → Unrefused (parted 10 (outputOf (textOf seed)))
 
 -- ---- the program: A SEED IS ITS DIGITS AND A NEWLINE, AND NOTHING ELSE IS ONE
 

@@ -27,9 +27,9 @@ use Rattle.transcript.specs.Alone.{rows-then, after-then}
 use Rattle.workload.specs.Numbers.{nextOf, numbersFrom}
 use Rattle.workload.specs.Table.{rowCount, rowOf, rowsTo, rowsOfSeed, tableOf}
 use Rattle.workload.specs.Trial.{Trial, trialLines, readyRow, ready, untilNext, lineBy, lineFor, onward, linesFrom, trialStart, callLines, trialOf, textOf}
-use Rattle.workload.specs.Statement.{linesIn, ReadWhole, Readable, FiveHundred, HeavyTable, countOf, Enough, EnoughEach, wordsOf, WordsInTurn, NoneRefused}
-use Rattle.workload.specs.Loose.{count-few, Bounds, row-bounds, rows-length, every-heavy}
-use Rattle.workload.specs.Runs.{Accepted, queued, answered, AllAccepted, lines-length, whole-run, counted}
+use Rattle.workload.specs.Statement.{linesRead, ReadWhole, Readable, FiveHundred, HeavyTable, countOf, Enough, EnoughEach, wordsOf, WordsInTurn, NoneRefused}
+use Rattle.workload.specs.Loose.{count-few, RowBounds, row-bounds, rows-length, every-heavy}
+use Rattle.workload.specs.Accepted.{Accepted, queued, answered, AllAccepted, lines-length, all-played, counted}
 use Rattle.workload.specs.Printed.{fine-more, fine-whole, fine-opinion, fine-calls}
 
 -- ---- the lines of the table
@@ -102,11 +102,11 @@ module _ (seed : ℕ) where
 
   calls-accepted : AllAccepted (trialStart seed) calls
   unfolding callLines
-  calls-accepted = whole-run seed .accepted
+  calls-accepted = all-played seed .accepted
 
   calls-narrow : AllNarrow calls
   unfolding callLines
-  calls-narrow = whole-run seed .narrow
+  calls-narrow = all-played seed .narrow
 
   calls-length : length calls ≡ 500 - n
   unfolding callLines
@@ -122,7 +122,7 @@ module _ (seed : ℕ) where
       length-append (rowLines (rowsOfSeed seed)) calls
       ∙ omega (arith, rows-many (rowsOfSeed seed), rows-length seed n, calls-length, count-few seed)
 
-  trial-back : linesIn seed ≡ trialOf seed
+  trial-back : linesRead seed ≡ trialOf seed
   unfolding textOf
   trial-back = lines-back (trialOf seed) trial-narrow
 

@@ -109,9 +109,9 @@ trialOf seed = rowLines (rowsOfSeed seed) ++ callLines seed
 unfoldable pub textOf : ℕ → List ℕ
 textOf seed = inputText (trialOf seed)
 
--- room for it: 65 bytes for each line
-abbrev pub room : ℕ
-room = 32500
+-- trialRoom for it: 65 bytes for each line
+abbrev pub trialRoom : ℕ
+trialRoom = 32500
 
 -- ---- the program
 

@@ -68,5 +68,6 @@ pub fn line_by(s: Session, number: u32, given: bool) -> Line
     if given {
         return Line::Call(Call::Choose);
     }
-    Line::Word(next(number))
+    let w = next(number);
+    Line::Word(w)
 }

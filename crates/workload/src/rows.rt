@@ -2,22 +2,17 @@
 ghost use mathlib.Core.Path.{_≡_};
 ghost use Prim.Native.Nat.{_≤_, _<_};
 ghost use lib.ListN.{length};
-ghost use Rattle.workload.specs.Rows.{RowIs, withRow, Tabled};
+ghost use Rattle.workload.specs.Rows.{RowIs, Tabled};
 use lines::input::put_input;
 use lines::read::Line;
+use transcript::rows::Rows;
+use transcript::rows::with_row;
 
 // A row: C, T and D.
 pub struct Row {
     pub run: u32,
     pub period: u32,
     pub deadline: u32,
-}
-
-// The rows, three numbers to each; how many there are; and how many bytes are written.
-pub struct Table {
-    pub words: [u32; 48],
-    pub count: usize,
-    pub end: usize,
 }
 
 // Row i of n rows, by its digit.
@@ -33,30 +28,16 @@ fn row_by(n: usize, i: usize, q: u32) -> Row
     }
 }
 
-fn with_row(t: Table, r: Row, end: usize) -> Table
-    requires { ⌜ t .count < 16 ⌝ }
-    ensures { λ u. ⌜ u ≡ withRow t r end ⌝ }
-{
-    let i = 3 * t.count;
-    let mut next = t;
-    next.words[i] = r.run;
-    next.words[i + 1] = r.period;
-    next.words[i + 2] = r.deadline;
-    next.count = t.count + 1;
-    next.end = end;
-    next
-}
-
-// Writes the table's lines to the start of `out`. Internal: the caller has seen to the room for a trial.
-pub fn put_rows(seed: u32, out: &mut [u8]) -> Table
+// Writes the table's lines to the start of `out`; `at` is the place past them. Internal: the caller has seen to the room for a trial.
+pub fn put_rows(seed: u32, out: &mut [u8]) -> Rows
     requires { ⌜ 780 ≤ length (now out) ⌝ }
     ensures { λ r. ⌜ Tabled seed r (now (out .entry)) (now (out .exit)) ⌝ }
 {
     let n = 5 + ((seed % 8) as usize);
-    let mut t = Table {
+    let mut t = Rows {
         words: [0; 48],
         count: 0,
-        end: 0,
+        at: 0,
     };
     let mut digits = seed / 8;
     while t.count < n {
@@ -66,8 +47,8 @@ pub fn put_rows(seed: u32, out: &mut [u8]) -> Table
             period: r.period,
             deadline: r.deadline,
         };
-        let end = put_input(out, t.end, line);
-        t = with_row(t, r, end);
+        let end = put_input(out, t.at, line);
+        t = with_row(t, r.run, r.period, r.deadline, end);
         digits = digits / 8;
     }
     t

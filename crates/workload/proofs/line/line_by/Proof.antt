@@ -7,8 +7,8 @@ use Rattle.workload.proofs.line.line_by.Tie as tie
 ready-row-requires : tie.Need-ready-row-requires
 ready-row-requires c κs = search needs
 
-cast-t9 : tie.Need-cast-t9
-cast-t9 c = search needs
+cast-t10 : tie.Need-cast-t10
+cast-t10 c = search needs
 
 returns : tie.Need-returns
 returns c = search (needs, line-cases)
@@ -19,8 +19,8 @@ until-next-requires c κs = search needs
 lesser-requires : tie.Need-lesser-requires
 lesser-requires c κs = search needs
 
-cast-t12 : tie.Need-cast-t12
-cast-t12 c = search (needs, line-cases)
+cast-t13 : tie.Need-cast-t13
+cast-t13 c = search needs
 
 returns-2 : tie.Need-returns-2
 returns-2 c = search (needs, line-cases)
@@ -39,11 +39,11 @@ line-by-spec =
     tie.close
     (tie.spec
     ready-row-requires
-    cast-t9
+    cast-t10
     returns
     until-next-requires
     lesser-requires
-    cast-t12
+    cast-t13
     returns-2
     returns-3
     next-requires

@@ -21,7 +21,7 @@ call-requires : tie.Need-call-requires
 call-requires c κs = search needs
 
 add-t11 : tie.Need-add-t11
-add-t11 c = 
+add-t11 c =
     let first = c .before .before .before .before .before in
     let part = part-is (first .args .p .from) (first .args .p .to) (first .args .words .now) in
     let h = used-within (first .args .p) _ (first .pre) (first .args .c) _ part (c .before .call .result) (c .before .call .ensures) in

@@ -39,7 +39,7 @@ pub data Accepted (x : Trial) : Line → Type 0 where
   answered : (c : Call) → shown (callOf (x .session) (x .queue) c .answer) .number ≡ 0 → Accepted x (CallLine c)
 
 -- y is a line that may come next
-pub record Next (seed : ℕ) (x : Trial) (done : List Line) (y : Line) : Type 0 where
+pub record Follows (seed : ℕ) (x : Trial) (done : List Line) (y : Line) : Type 0 where
   pub accepted : Accepted x y
   pub narrow : Narrow y
   pub stand : Stand seed (onward x y) (y ∷ done)
@@ -62,7 +62,7 @@ module _ (x : Trial) where
   line-word e f t = simp (e, f, t)
 
 module _ (seed : ℕ) (x : Trial) (done : List Line) (h : Stand seed x done) where
-  next-arrive : ready (x .session) ≡ true → Next seed x done (CallLine (Arrive (readyRow (x .session))))
+  next-arrive : ready (x .session) ≡ true → Follows seed x done (CallLine (Arrive (readyRow (x .session))))
   unfolding onward stepOf callOf
   next-arrive e =
       let q = arrived-is seed x done h e in
@@ -73,7 +73,7 @@ module _ (seed : ℕ) (x : Trial) (done : List Line) (h : Stand seed x done) whe
       }
 
   next-step : ready (x .session) ≡ false → 1 ≤ x .session .span → length done ≤ 1000
-      → Next seed x done (CallLine (Advance (min (x .session .span) (untilNext (x .session)))))
+      → Follows seed x done (CallLine (Advance (min (x .session .span) (untilNext (x .session)))))
   unfolding onward stepOf callOf
   next-step e some few =
       let q = advanced-is seed x done h e some few in
@@ -83,7 +83,7 @@ module _ (seed : ℕ) (x : Trial) (done : List Line) (h : Stand seed x done) whe
         stand = rw q (steps seed x done h e some few);
       }
 
-  next-choose : ready (x .session) ≡ false → x .session .span ≡ 0 → x .given ≡ true → Next seed x done (CallLine Choose)
+  next-choose : ready (x .session) ≡ false → x .session .span ≡ 0 → x .given ≡ true → Follows seed x done (CallLine Choose)
   unfolding onward stepOf callOf
   next-choose e z t =
       let q = choose-is (x .session) (h .good .sound) (x .queue) z in
@@ -93,7 +93,7 @@ module _ (seed : ℕ) (x : Trial) (done : List Line) (h : Stand seed x done) whe
         stand = rw q (chooses seed x done h e z t);
       }
 
-  next-word : ready (x .session) ≡ false → x .session .span ≡ 0 → x .given ≡ false → length done ≤ 1000 → Next seed x done (Word (nextOf (x .number)))
+  next-word : ready (x .session) ≡ false → x .session .span ≡ 0 → x .given ≡ false → length done ≤ 1000 → Follows seed x done (Word (nextOf (x .number)))
   unfolding onward stepOf
   next-word e z f few =
       let room : length (x .queue) < queueLimit = omega (arith, h .queue, h .all) in
@@ -105,7 +105,7 @@ module _ (seed : ℕ) (x : Trial) (done : List Line) (h : Stand seed x done) whe
       }
 
   -- THE NEXT LINE IS ACCEPTED, and the trial stands after it
-  pub next-line : length done ≤ 1000 → Next seed x done (lineFor x)
+  pub next-line : length done ≤ 1000 → Follows seed x done (lineFor x)
   next-line few =
       both (ready (x .session)) (λ e. rw (line-arrive x e) (next-arrive e))
       (λ e. both (ltb 0 (x .session .span)) (λ f. rw (line-step x e f) (next-step e (ltb-true 0 (x .session .span) f) few))
@@ -133,7 +133,7 @@ length-past : (l done : List Line) → length (past l done) ≡ length l + lengt
 length-past [] done = omega arith
 length-past (y ∷ l) done = omega (arith, length-past l (y ∷ done))
 
-pub record Run (seed : ℕ) (x : Trial) (done l : List Line) : Type 0 where
+pub record Played (seed : ℕ) (x : Trial) (done l : List Line) : Type 0 where
   pub accepted : AllAccepted x l
   pub narrow : AllNarrow l
   pub last : Trial
@@ -144,12 +144,12 @@ unfolding linesFrom
 lines-length zero x = refl
 lines-length (suc k) x = omega (arith, lines-length k (onward x (lineFor x)))
 
-pub run : (seed k : ℕ) (x : Trial) (done : List Line) → Stand seed x done → length done + k ≤ 1000 → Run seed x done (linesFrom k x)
+pub played : (seed k : ℕ) (x : Trial) (done : List Line) → Stand seed x done → length done + k ≤ 1000 → Played seed x done (linesFrom k x)
 unfolding linesFrom
-run seed zero x done h few = record { accepted = tt; narrow = tt; last = x; stand = h }
-run seed (suc k) x done h few =
+played seed zero x done h few = record { accepted = tt; narrow = tt; last = x; stand = h }
+played seed (suc k) x done h few =
     let n = next-line seed x done h (omega arith) in
-    let r = run seed k (onward x (lineFor x)) (lineFor x ∷ done) (n .stand) (omega arith) in
+    let r = played seed k (onward x (lineFor x)) (lineFor x ∷ done) (n .stand) (omega arith) in
     record { accepted = (n .accepted, r .accepted); narrow = (n .narrow, r .narrow); last = r .last; stand = r .stand }
 
 -- ---- so many lines have enough of each kind
@@ -231,8 +231,8 @@ module _ (seed : ℕ) where
   }
 
   -- THE LINES AFTER THE TABLE
-  pub whole-run : Run seed (trialStart seed) [] (linesFrom (500 - rowCount seed) (trialStart seed))
-  whole-run = run seed (500 - rowCount seed) (trialStart seed) [] first-stand (omega arith)
+  pub all-played : Played seed (trialStart seed) [] (linesFrom (500 - rowCount seed) (trialStart seed))
+  all-played = played seed (500 - rowCount seed) (trialStart seed) [] first-stand (omega arith)
 
   abbrev lines : List Line
   lines = linesFrom (500 - rowCount seed) (trialStart seed)
@@ -240,11 +240,12 @@ module _ (seed : ℕ) where
   pub counted : (20 ≤ countOf 65 lines) × (20 ≤ countOf 87 lines) × (20 ≤ countOf 71 lines) × (20 ≤ countOf 82 lines) × (countOf 70 lines ≡ 0)
   unfolding countOf
   counted =
-      let r = whole-run in
+      let r = all-played in
       let c = enough seed (r .last) (past lines []) (r .stand)
-      (omega (arith, length-past lines [], lines-length (500 - rowCount seed) (trialStart seed), count-few seed)) in
-      (omega (arith, c .0, count-past 65 lines []),
-      omega (arith, c .1, r .stand .words, r .stand .runs, count-past 87 lines []),
-      omega (arith, c .1, r .stand .runs, count-past 71 lines []),
-      omega (arith, c .1, count-past 82 lines []),
-      omega (arith, r .stand .finishes, count-past 70 lines []))
+      (omega (arith, length-past lines [], lines-length (500 - rowCount seed) (trialStart seed), count-few seed)) in (
+        omega (arith, c .0, count-past 65 lines []),
+        omega (arith, c .1, r .stand .words, r .stand .runs, count-past 87 lines []),
+        omega (arith, c .1, r .stand .runs, count-past 71 lines []),
+        omega (arith, c .1, count-past 82 lines []),
+        omega (arith, r .stand .finishes, count-past 70 lines []),
+      )
