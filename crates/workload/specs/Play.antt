@@ -26,92 +26,122 @@ use Rattle.workload.specs.Loose.{count-few}
 use Rattle.workload.specs.Stands.{Stand, rows}
 use Rattle.workload.specs.Accepted.{next-line, first-stand}
 
--- what p and all words queued so far stand for
-abbrev pub trialIn : Progress → List ℕ → Trial
-trialIn p w = record { session = p .session; queue = drop (p .from) (take (p .to) w); number = p .number; given = p .given }
+-- what the session, p and all words queued so far stand for
+abbrev pub trialIn : Session → Progress → List ℕ → Trial
+trialIn s p w = record { session = s; queue = drop (p .from) (take (p .to) w); number = p .number; given = p .given }
 
--- the session is sound, and there is room for a word
+-- there is room for a word
 pub record Ready (p : Progress) (w : List ℕ) : Type 0 where
-  pub sound : sound (p .session) ≡ true
   pub order : p .from ≤ p .to
   pub room : p .to < length w
   pub few : p .to ≤ 512
 
--- a line led from p to r, with the words v in place of w
-pub record Went (y : Line) (p r : Progress) (w v : List ℕ) : Type 0 where
-  pub trial : trialIn r v ≡ onward (trialIn p w) y
+-- a line led from s and p to t and r, with the words v in place of w
+pub record Went (y : Line) (s t : Session) (p r : Progress) (w v : List ℕ) : Type 0 where
+  pub trial : trialIn t r v ≡ onward (trialIn s p w) y
   pub order : r .from ≤ r .to
   pub most : r .to ≤ p .to + 1
   pub places : length v ≡ length w
 
+-- a line that is no call, with any session
+pub record Aside (y : Line) (p r : Progress) (w v : List ℕ) : Type 0 where
+  pub went : ((c : Call) → y ≡ CallLine c → ⊥) → (s : Session) → Went y s s p r w v
+
+-- after a call that used so many words
+abbrev pub calledBy : Progress → Call → ℕ → Progress
+calledBy p c used = record { from = p .from + used; to = p .to; number = p .number; given = givenAfterCall (p .given) c }
+
 -- ---- one line
 
+pub called-is : (p : Progress) (c : Call) (used : ℕ) (b : Bool) → b ≡ givenAfterCall (p .given) c
+    → record { from = p .from + used; to = p .to; number = p .number; given = b } ≡ calledBy p c used
+called-is p c used b e = rw e
+
 module _ (p : Progress) (w : List ℕ) (h : Ready p w) where
-  pub went-word : (x : ℕ)
-      → Went (Word x) p (record { session = p .session; from = p .from; to = p .to + 1; number = x; given = true }) w (set w (p .to) x)
+  abbrev queue : List ℕ
+  queue = drop (p .from) (take (p .to) w)
+
+  within : p .to ≤ length w
+  within = omega (arith, h .room)
+
+  pub went-word : (x : ℕ) → Aside (Word x) p (record { from = p .from; to = p .to + 1; number = x; given = true }) w (set w (p .to) x)
   unfolding onward stepOf
   went-word x =
-      let within : p .to ≤ length w = omega (arith, h .room) in
-      let few : length (drop (p .from) (take (p .to) w)) < queueLimit = omega (arith, queue-length w (p .from) (p .to) (h .order) within, h .few) in
+      let few : length queue < queueLimit = omega (arith, queue-length w (p .from) (p .to) (h .order) within, h .few) in
       record {
-        trial = simp (lt-ltb (length (drop (p .from) (take (p .to) w))) queueLimit few, queue-push w (p .from) (p .to) (h .order) within x (h .room));
-        order = omega (arith, h .order);
-        most = omega arith;
-        places = length-set w (p .to) x;
+        went = λ ne s. record {
+          trial = simp (lt-ltb (length queue) queueLimit few, queue-push w (p .from) (p .to) (h .order) within x (h .room));
+          order = omega (arith, h .order);
+          most = omega arith;
+          places = length-set w (p .to) x;
+        };
       }
 
-  module _ (c : Call) (l : List ℕ) (e : l ≡ drop (p .from) (take (p .to) w)) (o : Outcome) (f : o ≡ callOf (p .session) l c) where
+  module _ (s : Session) (c : Call) (l : List ℕ) (e : l ≡ queue) (o : Outcome) (f : o ≡ callOf s l c) where
     pub used-within : p .from + o .used ≤ p .to
     used-within =
         omega (
           arith,
           h .order,
           ap length e,
-          queue-length w (p .from) (p .to) (h .order) (omega (arith, h .room)),
-          call-used (p .session) l c,
+          queue-length w (p .from) (p .to) (h .order) within,
+          call-used s l c,
           ap (λ (z : Outcome). z .used) f,
         )
 
-    pub went-call : (b : Bool) → b ≡ givenAfterCall (p .given) c
-        → Went (CallLine c) p (record { session = o .session; from = p .from + o .used; to = p .to; number = p .number; given = b }) w w
+    pub went-call : (y : Line) (r : Progress) → y ≡ CallLine c → r ≡ calledBy p c (o .used) → Went y s (o .session) p r w w
     unfolding onward stepOf
-    went-call b g = record {
-      trial = rw (← e, ← f, ← g) (rw (sym (drop-drop (o .used) (p .from) (take (p .to) w)) ∙ ap (drop (o .used)) (sym e)) refl);
-      order = used-within;
-      most = omega arith;
-      places = refl;
-    }
+    went-call y r k g =
+        rw (k, g) (record {
+          trial = rw (← e, ← f) (rw (sym (drop-drop (o .used) (p .from) (take (p .to) w)) ∙ ap (drop (o .used)) (sym e)) refl);
+          order = used-within;
+          most = omega arith;
+          places = refl;
+        })
 
 -- the line that was met
 module _ (p r : Progress) (w v : List ℕ) (y : Line) where
-  pub went-as : (x : Line) → y ≡ x → Went x p r w v → Went y p r w v
-  went-as x e g = rw e g
+  pub aside-as : (x : Line) → y ≡ x → Aside x p r w v → Aside y p r w v
+  aside-as x e g = rw e g
+
+  pub aside-went : (s : Session) → ((c : Call) → y ≡ CallLine c → ⊥) → Aside y p r w v → Went y s s p r w v
+  aside-went s ne g = g .went ne s
 
 -- a line that is neither a word nor a call leads to nothing
-module _ (p : Progress) (w : List ℕ) (y : Line) (order : p .from ≤ p .to) where
-  stays : onward (trialIn p w) y ≡ trialIn p w → Went y p p w w
-  stays e = record { trial = sym e; order = order; most = omega arith; places = refl }
+module _ (p : Progress) (w : List ℕ) (y : Line) (h : Ready p w) where
+  stays : ((s : Session) → onward (trialIn s p w) y ≡ trialIn s p w) → Aside y p p w w
+  stays e = record { went = λ ne s. record { trial = sym (e s); order = h .order; most = omega arith; places = refl } }
 
-  pub went-row : (c t d : ℕ) → y ≡ Row c t d → Went y p p w w
+  pub aside-call : (c : Call) → y ≡ CallLine c → Aside y p p w w
+  aside-call c e = record { went = λ ne. absurd (ne c e) }
+
+  pub aside-row : (c t d : ℕ) → y ≡ Row c t d → Aside y p p w w
   unfolding onward stepOf
-  went-row c t d e = stays (rw e)
+  aside-row c t d e = stays (λ s. rw e)
 
-  pub went-empty : y ≡ Empty → Went y p p w w
+  pub aside-empty : y ≡ Empty → Aside y p p w w
   unfolding onward stepOf
-  went-empty e = stays (rw e)
+  aside-empty e = stays (λ s. rw e)
 
-  pub went-unreadable : y ≡ Unreadable → Went y p p w w
+  pub aside-unreadable : y ≡ Unreadable → Aside y p p w w
   unfolding onward stepOf
-  went-unreadable e = stays (rw e)
+  aside-unreadable e = stays (λ s. rw e)
 
-pub ruleset step-cases = (went-as, went-row, went-empty, went-unreadable)
+pub ruleset aside-cases = (aside-as, aside-call, aside-row, aside-empty, aside-unreadable)
 
 -- ---- the loop
 
+-- the trial stands; shut, so that a search among the facts of the loop does not go through all that this says
+pub data Held (seed : ℕ) (x : Trial) (done : List Line) : Type 0 where
+  held : Stand seed x done → Held seed x done
+
+stands : {seed : ℕ} {x : Trial} {done : List Line} → Held seed x done → Stand seed x done
+stands (held h) = h
+
 -- what is owed now, written to the buffer as it is now, gives the same as all lines, written to the buffer as it was
-pub record Playing (seed start : ℕ) (first : List ℕ) (p : Progress) (words out : List ℕ) (end left : ℕ) : Type 0 where
+pub record Playing (seed start : ℕ) (first : List ℕ) (s : Session) (p : Progress) (words out : List ℕ) (end left : ℕ) : Type 0 where
   pub done : List Line
-  pub stand : Stand seed (trialIn p words) done
+  pub stand : Held seed (trialIn s p words) done
   pub lines : length done + left ≡ trialLines - rowCount seed
   pub order : p .from ≤ p .to
   pub queued : p .to ≤ length done
@@ -119,18 +149,18 @@ pub record Playing (seed start : ℕ) (first : List ℕ) (p : Progress) (words o
   pub room : start + 65 * (trialLines - rowCount seed) ≤ length first
   pub most : end ≤ start + 65 * length done
   pub same : length out ≡ length first
-  pub buffer : overlay out end (inputText (linesFrom left (trialIn p words))) ≡ overlay first start (inputText (callLines seed))
-  pub total : end + length (inputText (linesFrom left (trialIn p words))) ≡ start + length (inputText (callLines seed))
+  pub buffer : overlay out end (inputText (linesFrom left (trialIn s p words))) ≡ overlay first start (inputText (callLines seed))
+  pub total : end + length (inputText (linesFrom left (trialIn s p words))) ≡ start + length (inputText (callLines seed))
 
 pub play-start : (seed start rows left : ℕ) (s : Session) (first : List ℕ) → s ≡ sessionOf (tableOf seed) → rows ≡ rowCount seed
     → left ≡ 500 - rows → start + 65 * (trialLines - rowCount seed) ≤ length first
-    → Playing seed start first (record { session = s; from = 0; to = 0; number = seed; given = false }) (replicate 512 0) first start left
+    → Playing seed start first s (record { from = 0; to = 0; number = seed; given = false }) (replicate 512 0) first start left
 unfolding callLines trialStart
 play-start seed start rows left s first e r l h =
     let k : left ≡ trialLines - rowCount seed = omega arith in
     rw (e, k) (record {
       done = [];
-      stand = first-stand seed;
+      stand = held (first-stand seed);
       lines = omega arith;
       order = omega arith;
       queued = omega arith;
@@ -142,17 +172,20 @@ play-start seed start rows left s first e r l h =
       total = refl;
     })
 
-module _ (seed start : ℕ) (first : List ℕ) (p : Progress) (words out : List ℕ) (end left : ℕ) (now : Playing seed start first p words out end left) where
+module _ (seed start : ℕ) (first : List ℕ) (s : Session) (p : Progress) (words out : List ℕ) (end left : ℕ)
+    (now : Playing seed start first s p words out end left) where
   abbrev x : Trial
-  x = trialIn p words
+  x = trialIn s p words
 
-  pub play-rows : p .session .count ≤ 16
-  play-rows = omega (arith, rows seed x (now .done) (now .stand), count-few seed)
+  pub play-rows : s .count ≤ 16
+  play-rows = omega (arith, rows seed x (now .done) (stands (now .stand)), count-few seed)
+
+  pub play-sound : sound s ≡ true
+  play-sound = stands (now .stand) .good .sound
 
   module _ (more : 0 < left) where
     pub play-ready : Ready p words
     play-ready = record {
-      sound = now .stand .good .sound;
       order = now .order;
       room = omega (arith, now .queued, now .lines, now .places);
       few = omega (arith, now .queued, now .lines);
@@ -161,24 +194,24 @@ module _ (seed start : ℕ) (first : List ℕ) (p : Progress) (words out : List 
     pub play-room : end + 65 ≤ length out
     play-room = omega (arith, now .most, now .lines, now .room, now .same)
 
-    module _ (y : Line) (r : Progress) (words′ out′ : List ℕ) (end′ : ℕ) (is : y ≡ lineBy (p .session) (p .number) (p .given))
-        (w : Wrote 65 (inputLine y) out out′ end end′) (g : Went y p r words words′) where
-      onward-is : trialIn r words′ ≡ onward x (lineFor x)
+    module _ (y : Line) (t : Session) (r : Progress) (words′ out′ : List ℕ) (end′ : ℕ) (is : y ≡ lineBy s (p .number) (p .given))
+        (w : Wrote 65 (inputLine y) out out′ end end′) (g : Went y s t p r words words′) where
+      onward-is : trialIn t r words′ ≡ onward x (lineFor x)
       onward-is = g .trial ∙ ap (onward x) is
 
-      owed : inputText (linesFrom left x) ≡ inputLine y ++ inputText (linesFrom (left - 1) (trialIn r words′))
+      owed : inputText (linesFrom left x) ≡ inputLine y ++ inputText (linesFrom (left - 1) (trialIn t r words′))
       unfolding inputText linesFrom
       owed =
           let k : left ≡ suc (left - 1) = omega arith in
           ap (λ (m : ℕ). inputText (linesFrom m x)) k ∙ rw (is, onward-is)
 
-      pub play-next : Playing seed start first r words′ out′ end′ (left - 1)
+      pub play-next : Playing seed start first t r words′ out′ end′ (left - 1)
       play-next =
           let fits : end + length (inputLine y) ≤ length out = omega (arith, play-room, w .short) in
-          let n = next-line seed x (now .done) (now .stand) (omega (arith, now .lines)) in
+          let n = next-line seed x (now .done) (stands (now .stand)) (omega (arith, now .lines)) in
           record {
             done = lineFor x ∷ now .done;
-            stand = subst (λ (z : Trial). Stand seed z (lineFor x ∷ now .done)) (sym onward-is) (n .stand);
+            stand = subst (λ (z : Trial). Held seed z (lineFor x ∷ now .done)) (sym onward-is) (held (n .stand));
             lines = omega (arith, now .lines);
             order = g .order;
             queued = omega (arith, g .most, now .queued);
@@ -187,11 +220,11 @@ module _ (seed start : ℕ) (first : List ℕ) (p : Progress) (words out : List 
             most = omega (arith, w .place, w .short, now .most);
             same = wrote-length 65 (inputLine y) out out′ end end′ fits w ∙ now .same;
             buffer =
-                rw (w .buffer, w .place) (overlay-more out end (inputLine y) fits (inputText (linesFrom (left - 1) (trialIn r words′))))
+                rw (w .buffer, w .place) (overlay-more out end (inputLine y) fits (inputText (linesFrom (left - 1) (trialIn t r words′))))
                 ∙ ap (overlay out end) (sym owed)
                 ∙ now .buffer;
             total =
-                let k = ap length owed ∙ length-append (inputLine y) (inputText (linesFrom (left - 1) (trialIn r words′))) in
+                let k = ap length owed ∙ length-append (inputLine y) (inputText (linesFrom (left - 1) (trialIn t r words′))) in
                 omega (arith, w .place, now .total, k);
           }
 
@@ -206,4 +239,4 @@ module _ (seed start : ℕ) (first : List ℕ) (p : Progress) (words out : List 
         short = omega (arith, now .total, ap length none, now .most, now .lines);
       }
 
-pub ruleset play-laws = (play-start, play-rows, play-ready, play-room, play-next, play-done)
+pub ruleset play-laws = (play-start, play-rows, play-sound, play-ready, play-room, play-next, play-done)

@@ -3,21 +3,20 @@ ghost use mathlib.Core.Path.{_≡_};
 ghost use Prim.Native.Nat.{_+_, _-_, _*_, _≤_};
 ghost use lib.ListN.{length};
 ghost use Rattle.decimal.specs.Buffer.{Wrote};
-ghost use Rattle.lines.specs.declared.read.Line.the-variants.{Word, Call as CallLine};
+ghost use Rattle.lines.specs.declared.read.Line.the-variants.{Word};
 ghost use Rattle.lines.specs.Input.{inputText};
 ghost use Rattle.session.specs.Start.{sessionOf};
 ghost use Rattle.workload.specs.Table.{rowCount, tableOf};
 ghost use Rattle.workload.specs.Trial.{trialLines, callLines, givenAfterCall};
-ghost use Rattle.workload.specs.Play.{Ready, Went};
+ghost use Rattle.workload.specs.Play.{Ready, Aside, calledBy};
 use crate::line::line_by;
 use lines::input::put_input;
 use lines::read::Call;
 use lines::read::Line;
 use session::Session;
 
-// What the lines so far have led to.
+// What the lines so far have led to, besides the session.
 pub struct Progress {
-    pub session: Session,
     // Of all words queued so far, those from place `from` up to place `to` wait.
     pub from: usize,
     pub to: usize,
@@ -38,10 +37,22 @@ fn still_given(c: Call, given: bool) -> bool
     }
 }
 
-// `W`.
+// A call that used so many words.
+fn called(p: Progress, c: Call, used: u64) -> Progress
+    requires { ⌜ p .from + used ≤ p .to ⌝ }
+    ensures { λ r. ⌜ r ≡ calledBy p c used ⌝ }
+{
+    Progress {
+        from: p.from + (used as usize),
+        to: p.to,
+        number: p.number,
+        given: still_given(c, p.given),
+    }
+}
+
 fn queued(p: Progress, w: u32, words: &mut [u32]) -> Progress
     requires { ⌜ Ready p (now words) ⌝ }
-    ensures { λ r. ⌜ Went (Word w) p r (now (words .entry)) (now (words .exit)) ⌝ }
+    ensures { λ r. ⌜ Aside (Word w) p r (now (words .entry)) (now (words .exit)) ⌝ }
 {
     let to = p.to;
     words[to] = w;
@@ -52,33 +63,14 @@ fn queued(p: Progress, w: u32, words: &mut [u32]) -> Progress
     q
 }
 
-// A call. The session is sound, so no check is made.
-fn called(p: Progress, c: Call, words: &[u32]) -> Progress
+// A line that is no call: a word. It has no session, which would be copied.
+fn aside(p: Progress, line: Line, words: &mut [u32]) -> Progress
     requires { ⌜ Ready p (now words) ⌝ }
-    ensures { λ r. ⌜ Went (CallLine c) p r (now (words .entry)) (now (words .entry)) ⌝ }
-{
-    let from = p.from;
-    let to = p.to;
-    let session = p.session;
-    let o = transcript::step::call(session, c, &words[from..to]);
-    let after = o.session;
-    Progress {
-        session: after,
-        from: from + (o.used as usize),
-        to,
-        number: p.number,
-        given: still_given(c, p.given),
-    }
-}
-
-// One line.
-fn step(p: Progress, line: Line, words: &mut [u32]) -> Progress
-    requires { ⌜ Ready p (now words) ⌝ }
-    ensures { λ r. ⌜ Went line p r (now (words .entry)) (now (words .exit)) ⌝ }
+    ensures { λ r. ⌜ Aside line p r (now (words .entry)) (now (words .exit)) ⌝ }
 {
     match line {
         Line::Word(w) => queued(p, w, words),
-        Line::Call(c) => called(p, c, words),
+        Line::Call(_) => p,
         Line::Row { .. } => p,
         Line::Empty => p,
         Line::Unreadable => p,
@@ -92,8 +84,8 @@ pub fn put_calls(seed: u32, session: Session, rows: usize, out: &mut [u8], start
     ensures { λ r. ⌜ Wrote (65 * (trialLines - rowCount seed)) (inputText (callLines seed)) (now (out .entry)) (now (out .exit)) start r ⌝ }
 {
     let mut words = [0u32; 512];
+    let mut s = session;
     let mut p = Progress {
-        session,
         from: 0,
         to: 0,
         number: seed,
@@ -102,11 +94,18 @@ pub fn put_calls(seed: u32, session: Session, rows: usize, out: &mut [u8], start
     let mut end = start;
     let mut left = 500 - rows;
     while 0 < left {
-        let s = p.session;
         let line = line_by(s, p.number, p.given);
         end = put_input(out, end, line);
-        p = step(p, line, &mut words);
         left = left - 1;
+        let Line::Call(c) = line else {
+            p = aside(p, line, &mut words);
+            continue;
+        };
+        let from = p.from;
+        let to = p.to;
+        let o = transcript::step::call(s, c, &words[from..to]);
+        s = o.session;
+        p = called(p, c, o.used);
     }
     end
 }
