@@ -1,6 +1,6 @@
 -- Text in a lent buffer. Assumes nothing.
 use Prim.Native.Nat.{ℕ, _+_, _≤_, _<_}
-use mathlib.Core.Path.{_≡_, sym, _∙_}
+use mathlib.Core.Path.{_≡_, refl, sym, ap, _∙_}
 use mathlib.Core.List.{List, [], _∷_, _++_, append-assoc, append-nil}
 use native.Mathlib.Nat.{add-assoc, add-zero}
 use native.Mathlib.Numerals.{add-one}
@@ -69,3 +69,40 @@ wrote-more m₁ m₂ t u d e f at p q fits v w = record {
 -- a greater bound
 pub wrote-within : (m k : ℕ) (t d e : List ℕ) (at p : ℕ) → m ≤ k → Wrote m t d e at p → Wrote k t d e at p
 wrote-within m k t d e at p h w = record { buffer = w .buffer; place = w .place; short = omega arith }
+
+-- ---- a text that is written piece by piece, by a loop that knows what it still owes
+
+-- what is owed now, written to the buffer as it is now, gives the same as all of the text, written to the buffer as it was
+pub record Owing (all first : List ℕ) (start : ℕ) (owed out : List ℕ) (end : ℕ) : Type 0 where
+  pub same : length out ≡ length first
+  pub buffer : overlay out end owed ≡ overlay first start all
+  pub total : end + length owed ≡ start + length all
+
+pub owing-start : (all first : List ℕ) (start : ℕ) (owed : List ℕ) → owed ≡ all → Owing all first start owed first start
+owing-start all first start owed e = record {
+  same = refl;
+  buffer = ap (overlay first start) e;
+  total = ap (λ (t : List ℕ). start + length t) e;
+}
+
+module _ (all first : List ℕ) (start : ℕ) (owed out : List ℕ) (end : ℕ) (now : Owing all first start owed out end) where
+  -- a first part of it is written
+  pub owing-next : (m : ℕ) (t u after : List ℕ) (next : ℕ) → owed ≡ t ++ u → end + length t ≤ length out → Wrote m t out after end next
+      → Owing all first start u after next
+  owing-next m t u after next e fits w = record {
+    same = wrote-length m t out after end next fits w ∙ now .same;
+    buffer = rw (w .buffer, w .place) (overlay-more out end t fits u) ∙ ap (overlay out end) (sym e) ∙ now .buffer;
+    total = omega (arith, w .place, now .total, ap length e ∙ length-append t u);
+  }
+
+  -- all of it is written
+  pub owing-last : (m k : ℕ) (t after : List ℕ) (next : ℕ) → owed ≡ t → Wrote m t out after end next → length all ≤ k → Wrote k all first after start next
+  owing-last m k t after next e w l = record {
+    buffer = w .buffer ∙ ap (overlay out end) (sym e) ∙ now .buffer;
+    place = omega (arith, w .place, now .total, ap length e);
+    short = l;
+  }
+
+  -- nothing is owed
+  pub owing-done : (k : ℕ) → owed ≡ [] → length all ≤ k → Wrote k all first out start end
+  owing-done k e l = owing-last 0 k [] out end e (wrote-none 0 out end) l

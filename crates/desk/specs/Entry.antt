@@ -5,8 +5,8 @@ use mathlib.Core.Bool.{false}
 use mathlib.Core.List.{List, [], _++_}
 use native.Mathlib.Numerals.{add-one}
 use native.Mathlib.Omega.{arith}
-use lib.ListN.{length, take, drop, length-append}
-use Rattle.decimal.specs.Buffer.{Wrote, overlay, overlay-more, wrote-length}
+use lib.ListN.{length, take, drop}
+use Rattle.decimal.specs.Buffer.{Wrote, Owing, owing-start, owing-next, owing-last}
 use Rattle.lines.specs.declared.read.Call.the-variants.{Arrive, Choose, Advance, Finish}
 use Rattle.lines.specs.declared.read.Line.{Line}
 use Rattle.lines.specs.declared.read.Line.the-variants.{Row, Word, Call, Empty, Unreadable}
@@ -35,9 +35,7 @@ pub record Reading (text first : List ℕ) (p : Progress) (w out : List ℕ) (at
   pub line : p .line ≤ at + 1
   pub paid : at < length text → p .end + 88 * p .count ≤ 11 * at
   pub last : p .end + 88 * p .count ≤ 11 * at + 11
-  pub same : length out ≡ length first
-  pub buffer : overlay out (p .end) (owed text p w at) ≡ overlay first 0 (all text)
-  pub total : p .end + length (owed text p w at) ≡ length (all text)
+  pub owing : Owing (all text) first 0 (owed text p w at) out (p .end)
 
 pub reading-start : (text first w : List ℕ) → length text ≤ inputLimit → 1564 + 11 * length text ≤ length first → length w ≡ 48
     → Reading text first (record { count = 0; spoiled = false; line = 1; end = 0 }) w first 0
@@ -50,9 +48,7 @@ reading-start text first w limit room places = record {
   line = omega arith;
   paid = λ h. omega arith;
   last = omega arith;
-  same = refl;
-  buffer = refl;
-  total = omega arith;
+  owing = owing-start (all text) first 0 _ refl;
 }
 
 -- ---- how many bytes a line takes
@@ -98,7 +94,7 @@ module _ (text first : List ℕ) (p : Progress) (w out : List ℕ) (at : ℕ) (n
   reading-ready = record {
     few = now .few;
     line = omega (arith, now .line, now .place, now .limit);
-    room = omega (arith, now .last, now .place, now .same, now .room);
+    room = omega (arith, now .last, now .place, now .owing .same, now .room);
   }
 
   module _ (h : at < length text) (n : Next) (t : Took text at n) (r : Progress) (v after : List ℕ) (d : LineDid (n .line) p r w v out after) where
@@ -122,14 +118,7 @@ module _ (text first : List ℕ) (p : Progress) (w out : List ℕ) (at : ℕ) (n
           line = omega (arith, d .line, now .line, t .size, size-some (n .line));
           paid = λ k. omega (arith, spent, ended text at n t k);
           last = omega (arith, spent, ended-size (n .line), t .size);
-          same = wrote-length 1479 x out after (p .end) (r .end) fits (d .wrote) ∙ now .same;
-          buffer =
-              rw (d .wrote .buffer, d .wrote .place) (overlay-more out (p .end) x fits (owed text r v (n .at)))
-              ∙ ap (overlay out (p .end)) (sym owed-more)
-              ∙ now .buffer;
-          total =
-              let k = ap length owed-more ∙ length-append x (owed text r v (n .at)) in
-              omega (arith, d .wrote .place, now .total, k);
+          owing = owing-next _ _ _ _ _ _ (now .owing) 1479 x (owed text r v (n .at)) after (r .end) owed-more fits (d .wrote);
         }
 
   -- ---- the end of the input
@@ -140,12 +129,8 @@ module _ (text first : List ℕ) (p : Progress) (w out : List ℕ) (at : ℕ) (n
       let place : at ≡ length text = omega (arith, now .place) in
       let none : linesOf (drop at text) ≡ [] = ap (λ (k : ℕ). linesOf (drop k text)) place ∙ lines-end text in
       let rest : owed text p w at ≡ lastText (draftOf w p) = rw none in
-      let most = ap length rest in
-      record {
-        buffer = f .wrote .buffer ∙ ap (overlay out (p .end)) (sym rest) ∙ now .buffer;
-        place = omega (arith, f .wrote .place, now .total, most);
-        short = omega (arith, now .total, most, f .short, now .last, place);
-      }
+      owing-last _ _ _ _ _ _ (now .owing) _ (1564 + 11 * length text) (lastText (draftOf w p)) after r rest (f .wrote)
+      (omega (arith, now .owing .total, ap length rest, f .short, now .last, place))
 
 pub ruleset reading-laws = (reading-start, reading-less, reading-ready, reading-next, reading-end)
 

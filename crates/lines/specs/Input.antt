@@ -16,9 +16,9 @@ use Rattle.lines.specs.declared.read.Call.{Call}
 use Rattle.lines.specs.declared.read.Call.the-variants.{Arrive, Choose, Advance, Finish}
 use Rattle.lines.specs.declared.read.Line.{Line}
 use Rattle.lines.specs.declared.read.Line.the-variants.{Row, Word, Call as CallLine, Empty, Unreadable}
-use Rattle.lines.specs.Parted.{onFirst, parted, parted-not-none}
+use Rattle.lines.specs.Parted.{parted, parted-not-none}
 use Rattle.lines.specs.Line.{bareOf, singleOf, tripleOf, lineOf}
-use Rattle.lines.specs.Lines.{linesIn, linesOf, lines-cons}
+use Rattle.lines.specs.Lines.{linesOf, lines-cons}
 use Rattle.lines.specs.Text.{fieldText}
 
 -- ---- definitions

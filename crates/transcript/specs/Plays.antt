@@ -6,9 +6,9 @@ use mathlib.Core.List.{List, [], _++_, append-nil}
 use native.Mathlib.Numerals.{add-one}
 use native.Mathlib.Omega.{arith}
 use lib.Dec.{ltb}
-use lib.ListN.{length, drop, length-append}
+use lib.ListN.{length, drop}
 use Rattle.bounded.specs.Tests.{both}
-use Rattle.decimal.specs.Buffer.{Wrote, overlay, overlay-none, overlay-more, wrote-length}
+use Rattle.decimal.specs.Buffer.{Wrote, Owing, owing-start, owing-next, owing-last, owing-done}
 use Rattle.lines.specs.declared.read.Call.{Call}
 use Rattle.lines.specs.declared.read.Line.{Line}
 use Rattle.lines.specs.declared.read.Line.the-variants.{Row, Word, Call as CallLine, Empty, Unreadable}
@@ -116,28 +116,21 @@ pub record Begun (text : List ℕ) (start : ℕ) (s : Session) (p : Play) (out :
   pub end : p .end ≤ 1478 + 22 * start
   pub room : roomOf text ≤ length out
 
--- what is owed now, written to the buffer as it is now, gives the same as all that was owed at first, written to the buffer as
--- it was
+-- all that was owed at first is written up to what is owed now
 pub record Playing (text : List ℕ) (start : ℕ) (s₀ : Session) (p₀ : Play) (first : List ℕ) (s : Session) (p : Play) (words out : List ℕ) (at : ℕ) : Type 0 where
   pub begun : Begun text start s₀ p₀ first
   pub reached : Reached text s p words at
   pub end : p .end ≤ 1478 + 22 * at
-  pub same : length out ≡ length first
-  pub buffer : overlay out (p .end) (owed text s p words at) ≡ overlay first (p₀ .end) (owed text s₀ p₀ [] start)
-  pub total : p .end + length (owed text s p words at) ≡ p₀ .end + length (owed text s₀ p₀ [] start)
+  pub owing : Owing (owed text s₀ p₀ [] start) first (p₀ .end) (owed text s p words at) out (p .end)
 
 pub play-start : (text : List ℕ) (start : ℕ) (s : Session) (p : Play) (first words : List ℕ) → Begun text start s p first → length words ≡ 16384
     → Playing text start s p first s p words first start
-play-start text start s p first words begun h =
-    let none : owed text s p words start ≡ owed text s p [] start = rw (begun .from, begun .to) in
-    record {
-      begun = begun;
-      reached = reached-first text s p words start (begun .limit) (begun .place) (begun .kept) (begun .from) (begun .to) (begun .line) h;
-      end = begun .end;
-      same = refl;
-      buffer = ap (overlay first (p .end)) none;
-      total = ap (λ (t : List ℕ). p .end + length t) none;
-    }
+play-start text start s p first words begun h = record {
+  begun = begun;
+  reached = reached-first text s p words start (begun .limit) (begun .place) (begun .kept) (begun .from) (begun .to) (begun .line) h;
+  end = begun .end;
+  owing = owing-start (owed text s p [] start) first (p .end) (owed text s p words start) (rw (begun .from, begun .to));
+}
 
 module _ (text : List ℕ) (start : ℕ) (s₀ : Session) (p₀ : Play) (first : List ℕ) (s : Session) (p : Play) (words out : List ℕ) (at : ℕ)
     (now : Playing text start s₀ p₀ first s p words out at) where
@@ -152,17 +145,14 @@ module _ (text : List ℕ) (start : ℕ) (s₀ : Session) (p₀ : Play) (first :
   pub play-done : length text ≤ at → Whole (p .end) out
   play-done h =
       let none = owed-none (omega (arith, now .reached .place)) in
-      record {
-        buffer = sym (overlay-none out (p .end)) ∙ ap (overlay out (p .end)) (sym none) ∙ now .buffer;
-        place = omega (arith, now .total, ap length none);
-        short = omega (arith, now .total, ap length none, now .end, now .reached .place);
-      }
+      owing-done _ _ _ _ _ _ (now .owing) (roomOf text - p₀ .end) none
+      (omega (arith, now .owing .total, ap length none, now .end, now .reached .place))
 
   pub play-sound : sound s ≡ true
   play-sound = now .reached .kept .sound
 
   pub play-ready : at < length text → Ready p words out
-  play-ready h = reached-ready text s p words at (now .reached) out (omega (arith, now .end, now .same, now .begun .room))
+  play-ready h = reached-ready text s p words at (now .reached) out (omega (arith, now .end, now .owing .same, now .begun .room))
 
   module _ (n : Next) (t : Took text at n) where
     pub play-place : p .to + wordsIn (n .line) ≤ length words
@@ -181,31 +171,20 @@ module _ (text : List ℕ) (start : ℕ) (s₀ : Session) (p₀ : Play) (first :
 
       play-over : r .over ≡ true → Whole (r .end) out′
       play-over e =
-          let all = ap length (owed-over e) in
-          record {
-            buffer = d .wrote .buffer ∙ ap (overlay out (p .end)) (sym (owed-over e)) ∙ now .buffer;
-            place = omega (arith, d .wrote .place, now .total, all);
-            short = omega (arith, d .wrote .short, now .total, now .end, all, now .reached .place);
-          }
+          owing-last _ _ _ _ _ _ (now .owing) 86 (roomOf text - p₀ .end) (stepOf s (queueOf words p) (p .line) (n .line) .text) out′ (r .end) (owed-over e) (d .wrote)
+          (omega (arith, d .wrote .short, now .owing .total, now .end, ap length (owed-over e), now .reached .place))
 
       pub play-next : r .over ≡ false → Playing text start s₀ p₀ first s′ r words′ out′ (n .at)
       play-next e =
           let x = stepOf s (queueOf words p) (p .line) (n .line) in
           let short = open-short s (now .reached .kept) (queueOf words p) (p .line) (n .line) (sym (d .over) ∙ e) (d .wrote .short) in
           let fits : p .end + length (x .text) ≤ length out =
-          omega (arith, d .wrote .short, now .end, now .same, now .begun .room, now .reached .place) in
+          omega (arith, d .wrote .short, now .end, now .owing .same, now .begun .room, now .reached .place) in
           record {
             begun = now .begun;
             reached = reached-next text s p words at (now .reached) n t s′ r words′ out out′ d e;
             end = omega (arith, d .wrote .place, short, now .end, t .size);
-            same = wrote-length 86 (x .text) out out′ (p .end) (r .end) fits (d .wrote) ∙ now .same;
-            buffer =
-                rw (d .wrote .buffer, d .wrote .place) (overlay-more out (p .end) (x .text) fits (owed text s′ r words′ (n .at)))
-                ∙ ap (overlay out (p .end)) (sym (owed-more e))
-                ∙ now .buffer;
-            total =
-                let k = ap length (owed-more e) ∙ length-append (x .text) (owed text s′ r words′ (n .at)) in
-                omega (arith, d .wrote .place, now .total, k);
+            owing = owing-next _ _ _ _ _ _ (now .owing) 86 (x .text) (owed text s′ r words′ (n .at)) out′ (r .end) (owed-more e) fits (d .wrote);
           }
 
     -- a line that is no call may end the output

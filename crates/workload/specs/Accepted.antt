@@ -1,7 +1,7 @@
 -- Every line of a trial is accepted, and enough of each kind come, for every seed. Assumes nothing.
 use Prim.Native.Nat.{ℕ, zero, suc, _+_, _-_, _*_, _≤_, _<_, min}
 use mathlib.Core.Path.{_≡_, refl, sym, ap, _∙_}
-use mathlib.Core.Bool.{Bool, true, false, true≢false}
+use mathlib.Core.Bool.{true, false, true≢false}
 use mathlib.Core.List.{List, [], _∷_}
 use native.Mathlib.Nat.{mul-le-mul-left}
 use native.Mathlib.Omega.{arith}
@@ -9,16 +9,16 @@ use lib.Dec.{ltb}
 use lib.ListN.{length}
 use borrow.Author.Tests.{ltb-true, ltb-false, lt-ltb}
 use Rattle.bounded.specs.Tests.{both, gate, gate-off, gate-le}
-use Rattle.bounded.specs.Sum.{sumTo, sum-le, sum-const, sum-zero}
+use Rattle.bounded.specs.Sum.{sum-le, sum-const, sum-zero}
 use Rattle.table.specs.Verdict.{opinionOf}
 use Rattle.lines.specs.declared.read.Call.{Call}
-use Rattle.lines.specs.declared.read.Call.the-variants.{Arrive, Choose, Advance, Finish}
+use Rattle.lines.specs.declared.read.Call.the-variants.{Arrive, Choose, Advance}
 use Rattle.lines.specs.declared.read.Line.{Line}
-use Rattle.lines.specs.declared.read.Line.the-variants.{Row, Word, Call as CallLine, Empty, Unreadable}
+use Rattle.lines.specs.declared.read.Line.the-variants.{Word, Call as CallLine}
 use Rattle.lines.specs.Input.{Narrow, AllNarrow}
 use Rattle.session.specs.declared.Job.{Job}
 use Rattle.session.specs.declared.Session.{Session}
-use Rattle.session.specs.Reading.{jobAt, tasks}
+use Rattle.session.specs.Reading.{jobAt}
 use Rattle.session.specs.Calls.{shown}
 use Rattle.session.specs.Facts.{facts-of}
 use Rattle.session.specs.Start.{noSession, freshOf, sessionOf, start-fresh}

@@ -1,7 +1,7 @@
 -- The code of the whole trial, and the entry points. Assumes nothing.
 use Prim.Native.Nat.{ℕ, _+_, _-_, _*_, _≤_, _<_}
 use mathlib.Core.Path.{_≡_, refl, sym, ap, _∙_}
-use mathlib.Core.List.{List, [], _++_}
+use mathlib.Core.List.{List}
 use mathlib.Core.Logic.{dite}
 use native.Mathlib.Omega.{arith}
 use native.Mathlib.Decide.{decLt}
@@ -12,7 +12,6 @@ use Rattle.decimal.specs.Buffer.{Wrote, wrote-none, wrote-more, wrote-within, w
 use Rattle.lines.specs.Input.{inputText, text-append}
 use Rattle.report.specs.Rows.{rowLines}
 use Rattle.report.specs.Whole.{Filled, tooShort, printed}
-use Rattle.table.specs.Verdict.{opinionOf}
 use Rattle.session.specs.declared.Session.{Session}
 use Rattle.session.specs.Start.{noSession, freshOf, sessionOf, start-fresh}
 use Rattle.transcript.specs.declared.rows.Rows.{Rows}

@@ -4,15 +4,14 @@ use mathlib.Core.Path.{_≡_, refl, sym, ap, _∙_}
 use mathlib.Core.Bool.{Bool, true, false}
 use native.Mathlib.Numerals.{add-one}
 use native.Mathlib.Omega.{arith}
-use lib.Dec.{leb, ltb}
+use lib.Dec.{leb}
 use borrow.Author.Tests.{le-leb, lt-leb, lt-ltb, le-ltb}
 use Rattle.bounded.specs.Fold.{foldTo}
 use Rattle.bounded.specs.Within.{Within}
-use Rattle.bounded.specs.Least.{leastFrom, Passed, passed-start, passed-next, first-found, first-none}
+use Rattle.bounded.specs.Least.{Passed, passed-start, passed-next, first-found, first-none}
 use Rattle.table.specs.Rows.{horizon}
-use Rattle.lines.specs.declared.read.Call.the-variants.{Arrive, Choose, Advance, Finish}
-use Rattle.lines.specs.declared.read.Line.{Line}
-use Rattle.lines.specs.declared.read.Line.the-variants.{Row, Word, Call, Empty, Unreadable}
+use Rattle.lines.specs.declared.read.Call.the-variants.{Arrive, Choose, Advance}
+use Rattle.lines.specs.declared.read.Line.the-variants.{Word, Call}
 use Rattle.session.specs.declared.Session.{Session}
 use Rattle.session.specs.Reading.{jobAt}
 use Rattle.workload.specs.Numbers.{nextOf}

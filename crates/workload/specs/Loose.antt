@@ -1,5 +1,5 @@
 -- The table of every seed is admitted as loose, and heavy (docs/WORKLOAD.md). Assumes nothing.
-use Prim.Native.Nat.{ℕ, zero, suc, _+_, _-_, _*_, _/_, _%_, _≤_, _<_, min}
+use Prim.Native.Nat.{ℕ, zero, suc, _+_, _-_, _*_, _%_, _≤_, _<_, min}
 use mathlib.Core.Path.{_≡_, refl, sym, ap, _∙_}
 use mathlib.Core.Bool.{Bool, true, false, not}
 use mathlib.Core.List.{List, [], _∷_, _++_}
@@ -7,10 +7,10 @@ use mathlib.Core.Logic.{dite}
 use native.Mathlib.Nat.{mul-le-mul, mul-le-mul-left}
 use native.Mathlib.Omega.{arith}
 use native.Mathlib.Decide.{decLt, ℕ-discrete}
-use lib.Dec.{leb, ltb, eqb}
+use lib.Dec.{leb, ltb}
 use lib.ListN.{length, getD, length-append, List·getD-append}
 use lib.Seq.{getD-append-add}
-use borrow.Author.Tests.{leb-true, le-leb, lt-ltb, le-ltb, ne-eqb, eq-eqb}
+use borrow.Author.Tests.{leb-true, le-leb, lt-ltb, le-ltb, ne-eqb}
 use Rattle.bounded.specs.Tests.{gate, gate-on, gate-off}
 use Rattle.bounded.specs.Sum.{sumTo, sum-le, sum-add, sum-mul, sum-const}
 use Rattle.bounded.specs.All.{allTo, all-at, all-of}
@@ -23,7 +23,7 @@ use Rattle.report.specs.Rows.{rowWords, words-append, words-length}
 use Rattle.table.specs.Rows.{horizon, tasksOf, rowRule, broken, firstBroken}
 use Rattle.table.specs.Budgets.{budgetOf, brittle, loose, looseTo}
 use Rattle.table.specs.Verdict.{Opinion, admitted, badLength, judgedOf, opinionOf}
-use Rattle.workload.specs.Table.{digitOf, rowCount, rowBy, rowOf, rowsTo, rowsOfSeed, tableOf}
+use Rattle.workload.specs.Table.{digitOf, rowCount, rowBy, rowOf, rowsTo, tableOf}
 use Rattle.workload.specs.Statement.{Heavy}
 
 -- ---- the rows

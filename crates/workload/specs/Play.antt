@@ -1,15 +1,14 @@
 -- The code of the lines after the table: one line, and the loop. Assumes nothing.
-use Prim.Native.Nat.{ℕ, zero, suc, _+_, _-_, _*_, _≤_, _<_}
+use Prim.Native.Nat.{ℕ, suc, _+_, _-_, _*_, _≤_, _<_}
 use mathlib.Core.Path.{_≡_, refl, sym, ap, subst, _∙_}
 use mathlib.Core.Bool.{Bool, true, false}
-use mathlib.Core.List.{List, [], _∷_, _++_, append-nil}
+use mathlib.Core.List.{List, [], _∷_, _++_}
 use native.Mathlib.Omega.{arith}
-use lib.ListN.{length, take, drop, set, replicate, length-set, length-append, length-replicate}
+use lib.ListN.{length, take, drop, set, replicate, length-set, length-replicate}
 use lib.Seq.{drop-drop}
 use borrow.Author.Tests.{lt-ltb}
-use Rattle.decimal.specs.Buffer.{Wrote, overlay, overlay-none, overlay-more, wrote-length}
+use Rattle.decimal.specs.Buffer.{Wrote, Owing, owing-start, owing-next, owing-done}
 use Rattle.lines.specs.declared.read.Call.{Call}
-use Rattle.lines.specs.declared.read.Call.the-variants.{Arrive, Choose, Advance, Finish}
 use Rattle.lines.specs.declared.read.Line.{Line}
 use Rattle.lines.specs.declared.read.Line.the-variants.{Row, Word, Call as CallLine, Empty, Unreadable}
 use Rattle.lines.specs.Input.{inputLine, inputText}
@@ -138,7 +137,7 @@ pub data Held (seed : ℕ) (x : Trial) (done : List Line) : Type 0 where
 stands : {seed : ℕ} {x : Trial} {done : List Line} → Held seed x done → Stand seed x done
 stands (held h) = h
 
--- what is owed now, written to the buffer as it is now, gives the same as all lines, written to the buffer as it was
+-- all lines are written up to what is owed now
 pub record Playing (seed start : ℕ) (first : List ℕ) (s : Session) (p : Progress) (words out : List ℕ) (end left : ℕ) : Type 0 where
   pub done : List Line
   pub stand : Held seed (trialIn s p words) done
@@ -148,9 +147,7 @@ pub record Playing (seed start : ℕ) (first : List ℕ) (s : Session) (p : Prog
   pub places : length words ≡ 512
   pub room : start + 65 * (trialLines - rowCount seed) ≤ length first
   pub most : end ≤ start + 65 * length done
-  pub same : length out ≡ length first
-  pub buffer : overlay out end (inputText (linesFrom left (trialIn s p words))) ≡ overlay first start (inputText (callLines seed))
-  pub total : end + length (inputText (linesFrom left (trialIn s p words))) ≡ start + length (inputText (callLines seed))
+  pub owing : Owing (inputText (callLines seed)) first start (inputText (linesFrom left (trialIn s p words))) out end
 
 pub play-start : (seed start rows left : ℕ) (s : Session) (first : List ℕ) → s ≡ sessionOf (tableOf seed) → rows ≡ rowCount seed
     → left ≡ 500 - rows → start + 65 * (trialLines - rowCount seed) ≤ length first
@@ -167,9 +164,7 @@ play-start seed start rows left s first e r l h =
       places = length-replicate {A = ℕ} 512 0;
       room = h;
       most = omega arith;
-      same = refl;
-      buffer = refl;
-      total = refl;
+      owing = owing-start (inputText (callLines seed)) first start _ refl;
     })
 
 module _ (seed start : ℕ) (first : List ℕ) (s : Session) (p : Progress) (words out : List ℕ) (end left : ℕ)
@@ -192,7 +187,7 @@ module _ (seed start : ℕ) (first : List ℕ) (s : Session) (p : Progress) (wor
     }
 
     pub play-room : end + 65 ≤ length out
-    play-room = omega (arith, now .most, now .lines, now .room, now .same)
+    play-room = omega (arith, now .most, now .lines, now .room, now .owing .same)
 
     module _ (y : Line) (t : Session) (r : Progress) (words′ out′ : List ℕ) (end′ : ℕ) (is : y ≡ lineBy s (p .number) (p .given))
         (w : Wrote 65 (inputLine y) out out′ end end′) (g : Went y s t p r words words′) where
@@ -218,14 +213,7 @@ module _ (seed start : ℕ) (first : List ℕ) (s : Session) (p : Progress) (wor
             places = g .places ∙ now .places;
             room = now .room;
             most = omega (arith, w .place, w .short, now .most);
-            same = wrote-length 65 (inputLine y) out out′ end end′ fits w ∙ now .same;
-            buffer =
-                rw (w .buffer, w .place) (overlay-more out end (inputLine y) fits (inputText (linesFrom (left - 1) (trialIn t r words′))))
-                ∙ ap (overlay out end) (sym owed)
-                ∙ now .buffer;
-            total =
-                let k = ap length owed ∙ length-append (inputLine y) (inputText (linesFrom (left - 1) (trialIn t r words′))) in
-                omega (arith, w .place, now .total, k);
+            owing = owing-next _ _ _ _ _ _ (now .owing) 65 (inputLine y) (inputText (linesFrom (left - 1) (trialIn t r words′))) out′ end′ owed fits w;
           }
 
   pub play-done : left ≤ 0 → Wrote (65 * (trialLines - rowCount seed)) (inputText (callLines seed)) first out start end
@@ -233,10 +221,7 @@ module _ (seed start : ℕ) (first : List ℕ) (s : Session) (p : Progress) (wor
   play-done l =
       let z : left ≡ 0 = omega arith in
       let none : inputText (linesFrom left x) ≡ [] = ap (λ (m : ℕ). inputText (linesFrom m x)) z in
-      record {
-        buffer = sym (overlay-none out end) ∙ ap (overlay out end) (sym none) ∙ now .buffer;
-        place = omega (arith, now .total, ap length none);
-        short = omega (arith, now .total, ap length none, now .most, now .lines);
-      }
+      owing-done _ _ _ _ _ _ (now .owing) (65 * (trialLines - rowCount seed)) none
+      (omega (arith, now .owing .total, ap length none, now .most, now .lines))
 
 pub ruleset play-laws = (play-start, play-rows, play-sound, play-ready, play-room, play-next, play-done)

@@ -7,7 +7,6 @@ use native.Mathlib.Numerals.{add-one}
 use native.Mathlib.Omega.{arith}
 use lib.ListN.{length, take, replicate}
 use Rattle.decimal.specs.Buffer.{Wrote, wrote-none, wrote-more, wrote-within, wrote-length}
-use Rattle.lines.specs.declared.read.Line.{Line}
 use Rattle.lines.specs.declared.read.Line.the-variants.{Row}
 use Rattle.lines.specs.Input.{inputLine, inputText, text-append}
 use Rattle.table.specs.Words.{words-places, words-more}

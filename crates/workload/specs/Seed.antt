@@ -1,7 +1,6 @@
 -- The seed in an input: the code that reads it, and the proofs of Statement.antt of the program. Assumes nothing.
-use Prim.Native.Nat.{ℕ, suc, _+_, _≤_, _<_}
+use Prim.Native.Nat.{ℕ, _+_, _≤_, _<_}
 use mathlib.Core.Path.{_≡_, refl, sym, ap, subst, _∙_}
-use mathlib.Core.Bool.{true, false}
 use mathlib.Core.List.{List, [], _∷_, _++_}
 use mathlib.Core.Logic.{dite, _⊎_, inl, inr, ⊎-elim}
 use native.Mathlib.Omega.{arith}

@@ -7,25 +7,24 @@ use mathlib.Core.Logic.{dite, _⊎_, inl, inr, ⊎-elim}
 use native.Mathlib.Omega.{arith}
 use native.Mathlib.Decide.{decLt, ℕ-discrete}
 use lib.Dec.{leb, ltb, eqb}
-use lib.ListN.{length, getD, set, drop, length-append, length-drop}
+use lib.ListN.{length, set, drop, length-append, length-drop}
 use lib.Seq.{getD-set-same, getD-set-other}
 use borrow.Author.Tests.{leb-true, leb-false, ltb-true, ltb-false, lt-leb, lt-ltb, le-ltb, ne-eqb}
 use Rattle.bounded.specs.Tests.{both, and-both, gate, gate-on, gate-off}
 use Rattle.bounded.specs.Sum.{sumTo, sum-eq, sum-eq-at}
 use Rattle.bounded.specs.Fold.{foldTo}
-use Rattle.bounded.specs.Least.{leastFrom, least-at, least-before}
+use Rattle.bounded.specs.Least.{least-at, least-before}
 use Rattle.table.specs.Rows.{horizon, tasksOf}
-use Rattle.lines.specs.declared.read.Call.{Call}
-use Rattle.lines.specs.declared.read.Call.the-variants.{Arrive, Choose, Advance, Finish}
+use Rattle.lines.specs.declared.read.Call.the-variants.{Arrive, Choose, Advance}
 use Rattle.lines.specs.declared.read.Line.{Line}
-use Rattle.lines.specs.declared.read.Line.the-variants.{Row, Word, Call as CallLine, Empty, Unreadable}
+use Rattle.lines.specs.declared.read.Line.the-variants.{Word, Call as CallLine}
 use Rattle.session.specs.declared.Job.{Job}
 use Rattle.session.specs.declared.Session.{Session}
 use Rattle.session.specs.declared.Answer.the-variants.{Chosen}
 use Rattle.session.specs.Reading.{noJob, jobAt, tasks, clockEnd}
 use Rattle.session.specs.Sound.{sound}
 use Rattle.session.specs.Choose.{pickOf, pickUsed, usedOf, spanOf}
-use Rattle.session.specs.Calls.{shown, changed, arrivedJob, arrivedOf, arriveIn, arriveOf, chooseIn, chooseOf, jobsWith, agedJob, steppedOf, advanceIn, advanceOf}
+use Rattle.session.specs.Calls.{changed, arrivedJob, arrivedOf, arriveIn, arriveOf, chooseIn, chooseOf, jobsWith, agedJob, steppedOf, advanceIn, advanceOf}
 use Rattle.session.specs.Facts.{Choice, facts-of}
 use Rattle.guarantee.specs.Ledger.{arrive, choose, advance}
 use Rattle.guarantee.specs.Good.{Good, good-places}

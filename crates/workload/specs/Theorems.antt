@@ -11,24 +11,22 @@ use lib.Seq.{take-all}
 use borrow.Author.Tests.{eq-eqb}
 use Rattle.bounded.specs.Tests.{both, gate}
 use Rattle.lines.specs.declared.read.Call.{Call}
-use Rattle.lines.specs.declared.read.Call.the-variants.{Arrive, Choose, Advance, Finish}
+use Rattle.lines.specs.declared.read.Call.the-variants.{Arrive, Choose, Advance}
 use Rattle.lines.specs.declared.read.Line.{Line}
-use Rattle.lines.specs.declared.read.Line.the-variants.{Row, Word, Call as CallLine, Empty, Unreadable}
+use Rattle.lines.specs.declared.read.Line.the-variants.{Row, Word, Call as CallLine}
 use Rattle.lines.specs.Lines.{linesOf}
-use Rattle.lines.specs.Input.{Narrow, AllNarrow, inputText, narrow-append, lines-back, text-short}
+use Rattle.lines.specs.Input.{AllNarrow, narrow-append, lines-back, text-short}
 use Rattle.report.specs.Rows.{rowLines, rowWords, lines-append}
 use Rattle.report.specs.Text.{opinionText}
 use Rattle.table.specs.Verdict.{opinionOf}
-use Rattle.session.specs.Start.{sessionOf}
-use Rattle.transcript.specs.Step.{callsText}
 use Rattle.transcript.specs.Transcript.{inputLimit, rowLimit, rowsIn, afterRows, printedOf, outputOf}
 use Rattle.transcript.specs.Table.{rows-other, after-other}
 use Rattle.transcript.specs.Alone.{rows-then, after-then}
 use Rattle.workload.specs.Numbers.{nextOf, numbersFrom}
 use Rattle.workload.specs.Table.{rowCount, rowOf, rowsTo, rowsOfSeed, tableOf}
 use Rattle.workload.specs.Trial.{Trial, trialLines, readyRow, ready, untilNext, lineBy, lineFor, onward, linesFrom, trialStart, callLines, trialOf, textOf}
-use Rattle.workload.specs.Statement.{linesRead, ReadWhole, Readable, FiveHundred, HeavyTable, countOf, Enough, EnoughEach, wordsOf, WordsInTurn, NoneRefused}
-use Rattle.workload.specs.Loose.{count-few, RowBounds, row-bounds, rows-length, every-heavy}
+use Rattle.workload.specs.Statement.{linesRead, ReadWhole, Readable, FiveHundred, HeavyTable, countOf, EnoughEach, wordsOf, WordsInTurn, NoneRefused}
+use Rattle.workload.specs.Loose.{count-few, row-bounds, rows-length, every-heavy}
 use Rattle.workload.specs.Accepted.{Accepted, queued, answered, AllAccepted, lines-length, all-played, counted}
 use Rattle.workload.specs.Printed.{fine-more, fine-whole, fine-opinion, fine-calls}
 

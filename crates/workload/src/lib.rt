@@ -1,5 +1,4 @@
 // A repeatable heavy load: from a seed to a text of 500 lines for `shuffle` (docs/WORKLOAD.md).
-ghost use mathlib.Core.Path.{_≡_};
 ghost use Prim.Native.Nat.{_≤_};
 ghost use lib.ListN.{length};
 ghost use Rattle.decimal.specs.Buffer.{Wrote};

@@ -1,5 +1,4 @@
 // The table of a seed, as numbers and as text (docs/WORKLOAD.md).
-ghost use mathlib.Core.Path.{_≡_};
 ghost use Prim.Native.Nat.{_≤_, _<_};
 ghost use lib.ListN.{length};
 ghost use Rattle.workload.specs.Rows.{RowIs, Tabled};
