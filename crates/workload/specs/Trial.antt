@@ -109,7 +109,7 @@ trialOf seed = rowLines (rowsOfSeed seed) ++ callLines seed
 unfoldable pub textOf : ℕ → List ℕ
 textOf seed = inputText (trialOf seed)
 
--- trialRoom for it: 65 bytes for each line
+-- room for it: 65 bytes for each line
 abbrev pub trialRoom : ℕ
 trialRoom = 32500
 
