@@ -1,0 +1,1 @@
+// No code: the game, and what it comes to, stand in specs/.
