@@ -1,13 +1,12 @@
 // One line, and the end of a table (docs/SPECIFICATION.md §8.6).
 ghost use mathlib.Core.Path.{_≡_};
-ghost use Prim.Native.Nat.{_<_};
 ghost use lib.ListN.{length};
-ghost use Rattle.table.specs.Words.{wordsWith};
 ghost use Rattle.lines.specs.declared.read.Line.the-variants.{Row};
 ghost use Rattle.desk.specs.Step.{Ready, Unread, draftOf, Answered, Closed, LineDid, lastText, Finished};
 use decimal::write::put_byte;
 use lines::read::Line;
 use lines::write::put_line;
+use table::rows::put_row;
 
 // What the lines so far have led to, besides the rows of the table at hand.
 pub struct Progress {
@@ -33,16 +32,6 @@ fn unreadable(p: Progress, out: &mut [u8]) -> Progress
         line: p.line + 1,
         end,
     }
-}
-
-// The numbers of row i.
-fn put_row(words: &mut [u32], i: usize, run: u32, period: u32, deadline: u32)
-    requires { ⌜ (length (now words) ≡ 48) × (i < 16) ⌝ }
-    ensures { λ _. ⌜ now (words .exit) ≡ wordsWith (now (words .entry)) i run period deadline ⌝ }
-{
-    words[3 * i] = run;
-    words[3 * i + 1] = period;
-    words[3 * i + 2] = deadline;
 }
 
 // The opinion on the table at hand, unless that is spoiled.

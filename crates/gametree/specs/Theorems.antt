@@ -14,6 +14,7 @@ use Rattle.table.specs.Rows.{tasksOf, fit-lawful}
 use Rattle.gametree.specs.declared.board.Slot.{Slot}
 use Rattle.gametree.specs.declared.Finding.{Finding}
 use Rattle.gametree.specs.declared.Finding.the-variants.{Forced, Held, Refused}
+use Rattle.gametree.specs.Bounds.{Playing}
 use Rattle.gametree.specs.Search.{forcedOf}
 use Rattle.gametree.specs.Entry.{playableOf, openingOf, searchOf, playable-playing}
 use Rattle.gametree.specs.Statement.{Says, Means, SearchExact}
@@ -112,3 +113,10 @@ search-exact l n = both (playableOf l n) (λ e. exact-played l n e) (λ e. exact
 -- for the code
 pub answer-is : (l : List ℕ) (n : ℕ) (r : Finding) → r ≡ searchOf l n → (r ≡ searchOf l n) × Says l n r
 answer-is l n r e = (e, subst (Says l n) (sym e) (search-exact l n .0))
+
+-- for callers that have an answer: the table and n keep their rules
+pub forced-playing : (l : List ℕ) (n : ℕ) → searchOf l n ≡ Forced → Playing (tasksOf l) 0 n
+unfolding searchOf
+forced-playing l n w =
+    both (playableOf l n) (λ e. playable-playing l n (playableOf l n) refl e)
+    (λ e. unlike (searchOf l n) Refused Forced (simp e) w (λ q. omega (arith, q)))

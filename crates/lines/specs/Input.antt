@@ -18,7 +18,7 @@ use Rattle.lines.specs.declared.read.Line.{Line}
 use Rattle.lines.specs.declared.read.Line.the-variants.{Row, Word, Call as CallLine, Empty, Unreadable}
 use Rattle.lines.specs.Parted.{parted, parted-not-none}
 use Rattle.lines.specs.Line.{bareOf, singleOf, tripleOf, lineOf}
-use Rattle.lines.specs.Lines.{linesOf, lines-cons}
+use Rattle.lines.specs.Lines.{linesOf, linesBy, lines-cons}
 use Rattle.lines.specs.Text.{fieldText}
 
 -- ---- definitions
@@ -169,14 +169,14 @@ body-of Unreadable h = body-bare 63 Unreadable refl refl refl
 
 -- THE LINES OF A TEXT ARE THOSE THAT IT WAS MADE FROM
 pub lines-back : (l : List Line) → AllNarrow l → linesOf (inputText l) ≡ l
-unfolding linesOf inputText parted
+unfolding linesOf linesBy inputText parted
 lines-back [] h = refl
 lines-back (x ∷ l) h =
     let b = body-of x (h .0) in
     let whole : inputText (x ∷ l) ≡ b .body ++ 10 ∷ inputText l =
     ap (λ (t : List ℕ). t ++ inputText l) (b .text) ∙ append-assoc (b .body) (10 ∷ []) (inputText l) in
     ap linesOf whole
-    ∙ rw (parted-end 10 (b .body) (inputText l) (b .one), lines-cons (b .body) (parted 10 (inputText l)) (parted-not-none 10 (inputText l)), b .back)
+    ∙ rw (parted-end 10 (b .body) (inputText l) (b .one), lines-cons lineOf Unreadable (b .body) (parted 10 (inputText l)) (parted-not-none 10 (inputText l)), b .back)
     (ap (λ (r : List Line). x ∷ r) (lines-back l (h .1)))
 
 -- ---- its length

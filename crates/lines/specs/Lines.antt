@@ -18,19 +18,20 @@ use Rattle.lines.specs.declared.read.Next.{Next}
 use Rattle.lines.specs.Parted.{parted, onFirst, parted-not-none, Place, parted-whole, parted-at, tail-is}
 use Rattle.lines.specs.Line.{letterOf, bareOf, singleOf, tripleOf, given, givenThree, lineIn, lineOf}
 
--- bytes after the last newline are one more line, and unreadable
-abbrev pub leftover : List ℕ → List Line
-leftover [] = []
-leftover (b ∷ l) = Unreadable ∷ []
+-- the lines of a text, each without its newline and read by f: all parts but the last are ended by a newline, and bytes after the
+-- last newline are one more line, which is u
+abbrev pub linesIn : {L : Type 0} → (List ℕ → L) → L → List (List ℕ) → List L
+linesIn f u [] = []
+linesIn f u ([] ∷ []) = []
+linesIn f u ((b ∷ p) ∷ []) = u ∷ []
+linesIn f u (p ∷ q ∷ l) = f p ∷ linesIn f u (q ∷ l)
 
--- all parts but the last are lines ended by a newline
-abbrev pub linesIn : List (List ℕ) → List Line
-linesIn [] = []
-linesIn (p ∷ []) = leftover p
-linesIn (p ∷ q ∷ l) = lineOf p ∷ linesIn (q ∷ l)
+unfoldable pub linesBy : {L : Type 0} → (List ℕ → L) → L → List ℕ → List L
+linesBy f u l = linesIn f u (parted 10 l)
 
+-- as `shuffle` reads them: bytes after the last newline are unreadable
 unfoldable pub linesOf : List ℕ → List Line
-linesOf l = linesIn (parted 10 l)
+linesOf l = linesBy lineOf Unreadable l
 
 -- how many bytes a line takes at least, with its newline
 abbrev pub leastSize : Line → ℕ
@@ -152,17 +153,45 @@ pub record Took (l : List ℕ) (at : ℕ) (r : Next) : Type 0 where
 
 -- ---- the code that reads lines
 
+module _ {L : Type 0} (f : List ℕ → L) (u : L) where
+  pub lines-none : (l : List ℕ) → linesBy f u (drop (length l) l) ≡ []
+  unfolding linesBy parted
+  lines-none l = rw (drop-length l)
+
+  pub lines-cons : (p : List ℕ) (l : List (List ℕ)) → (l ≡ [] → ⊥) → linesIn f u (p ∷ l) ≡ f p ∷ linesIn f u l
+  lines-cons p [] h = absurd (h refl)
+  lines-cons [] (q ∷ l) h = refl
+  lines-cons (b ∷ p) (q ∷ l) h = refl
+
+  left-some : (l : List ℕ) → 0 < length l → linesIn f u (l ∷ []) ≡ u ∷ []
+  left-some [] h = absurd (omega arith)
+  left-some (b ∷ l) h = refl
+
+  -- the line that begins at a place of l; e is where the newline is, from there on
+  module _ (l rest : List ℕ) (at e : ℕ) (h : at < length l) (i : rest ≡ drop at l) (p : Place 10 rest e) where
+    pub next-left : length rest ≤ e → linesBy f u (drop at l) ≡ u ∷ linesBy f u (drop (length l) l)
+    unfolding linesBy
+    next-left k =
+        ap (linesBy f u) (sym i)
+        ∙ ap (linesIn f u) (parted-whole 10 rest e p k)
+        ∙ left-some rest (omega (arith, ap length i, length-drop at l))
+        ∙ sym (ap (λ (x : List L). u ∷ x) (lines-none l))
+
+    pub next-line : e < length rest → linesBy f u (drop at l) ≡ f (take e rest) ∷ linesBy f u (drop (at + e + 1) l)
+    unfolding linesBy
+    next-line k =
+        let past : at + (e + 1) ≡ at + e + 1 = omega arith in
+        ap (linesBy f u) (sym i)
+        ∙ ap (linesIn f u) (parted-at 10 rest e p k)
+        ∙ lines-cons (take e rest) _ (parted-not-none 10 _)
+        ∙ ap (λ (z : List ℕ). f (take e rest) ∷ linesBy f u z) (ap (drop (e + 1)) i ∙ drop-drop (e + 1) at l ∙ ap (λ (n : ℕ). drop n l) past)
+
+    pub next-within : e < length rest → at + e + 1 ≤ length l
+    next-within k = omega (arith, ap length i, length-drop at l)
+
 pub lines-end : (l : List ℕ) → linesOf (drop (length l) l) ≡ []
-unfolding linesOf parted
-lines-end l = rw (drop-length l)
-
-pub lines-cons : (p : List ℕ) (l : List (List ℕ)) → (l ≡ [] → ⊥) → linesIn (p ∷ l) ≡ lineOf p ∷ linesIn l
-lines-cons p [] h = absurd (h refl)
-lines-cons p (q ∷ l) h = refl
-
-leftover-some : (l : List ℕ) → 0 < length l → leftover l ≡ Unreadable ∷ []
-leftover-some [] h = absurd (omega arith)
-leftover-some (b ∷ l) h = refl
+unfolding linesOf
+lines-end l = lines-none lineOf Unreadable l
 
 module _ (l rest : List ℕ) (at e : ℕ) (h : at < length l) (i : rest ≡ drop at l) (p : Place 10 rest e) where
   newline : e ≡ indexOf 10 (drop at l)
@@ -171,30 +200,19 @@ module _ (l rest : List ℕ) (at e : ℕ) (h : at < length l) (i : rest ≡ drop
   pub took-left : length rest ≤ e → Took l at (record { line = Unreadable; at = length l })
   unfolding linesOf
   took-left k = record {
-    lines =
-        ap linesOf (sym i)
-        ∙ ap linesIn (parted-whole 10 rest e p k)
-        ∙ leftover-some rest (omega (arith, ap length i, length-drop at l))
-        ∙ sym (ap (λ (x : List Line). Unreadable ∷ x) (lines-end l));
+    lines = next-left lineOf Unreadable l rest at e h i p k;
     past = omega (arith, newline, ap length i, length-drop at l);
     within = omega arith;
     size = omega arith;
     some = λ n h. absurd (omega arith);
   }
 
-  sum-past : at + (e + 1) ≡ at + e + 1
-  sum-past = omega arith
-
   pub took-line : (x : Line) → e < length rest → x ≡ lineOf (take e rest) → Took l at (record { line = x; at = at + e + 1 })
   unfolding linesOf
   took-line x k g = record {
-    lines =
-        ap linesOf (sym i)
-        ∙ ap linesIn (parted-at 10 rest e p k)
-        ∙ lines-cons (take e rest) _ (parted-not-none 10 _)
-        ∙ rw (← g) (ap (λ (z : List ℕ). x ∷ linesOf z) (ap (drop (e + 1)) i ∙ drop-drop (e + 1) at l ∙ ap (λ (n : ℕ). drop n l) sum-past));
+    lines = rw g (next-line lineOf Unreadable l rest at e h i p k);
     past = omega (arith, newline, ap length i, length-drop at l);
-    within = omega (arith, ap length i, length-drop at l);
+    within = next-within lineOf Unreadable l rest at e h i p k;
     size = rw g (omega (arith, line-size (take e rest), length-take-le e rest (omega arith)));
     some = λ n h. omega (arith, line-some (take e rest) (λ z. n (g ∙ z)), length-take-le e rest (omega arith));
   }

@@ -120,7 +120,7 @@ fn read_single(c: u8, rest: &[u8]) -> Line
 }
 
 // A line without its newline.
-fn read_line(line: &[u8]) -> Line
+pub fn read_line(line: &[u8]) -> Line
     ensures { λ r. ⌜ r ≡ lineOf (now (line .entry)) ⌝ }
 {
     if line.len() == 0 {

@@ -1,7 +1,9 @@
 // The rows of a table and their rule (docs/SPECIFICATION.md §2.1).
 ghost use mathlib.Core.Path.{_≡_};
 ghost use Prim.Native.Nat.{_<_};
+ghost use lib.ListN.{length};
 ghost use Rattle.table.specs.Rows.{tasksOf, broken, firstBroken, Wide, Row, Fit, FitRow};
+ghost use Rattle.table.specs.Words.{wordsWith};
 
 // A row: C, the longest run (worst-case execution time); T, the least time between arrivals (period); D, the time from
 // arrival to deadline (relative deadline).
@@ -81,4 +83,14 @@ pub fn fit_row(words: &[u32], i: usize) -> Task
     ensures { λ r. ⌜ FitRow (tasksOf (now (words .entry))) i r ⌝ }
 {
     row_at(words, i)
+}
+
+// The numbers of row i of a table that is read row by row into 48 places. Internal: its callers count the rows.
+pub fn put_row(words: &mut [u32], i: usize, run: u32, period: u32, deadline: u32)
+    requires { ⌜ (length (now words) ≡ 48) × (i < 16) ⌝ }
+    ensures { λ _. ⌜ now (words .exit) ≡ wordsWith (now (words .entry)) i run period deadline ⌝ }
+{
+    words[3 * i] = run;
+    words[3 * i + 1] = period;
+    words[3 * i + 2] = deadline;
 }

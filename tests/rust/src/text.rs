@@ -213,7 +213,7 @@ pub fn print_unreadable(output: &mut Vec<u8>, clock: u64, line_number: u64) {
     print(output, clock, '?', 13, line_number, 0);
 }
 
-fn print(
+pub fn print(
     output: &mut Vec<u8>,
     clock: u64,
     letter: char,

@@ -1,8 +1,8 @@
--- `desk::step::put_row` meets its contract. Assumes nothing.
+-- `table::rows::put_row` meets its contract. Assumes nothing.
 use lib.ListN.{length-set}
 use borrow.Author.Needs.{needs}
-use Rattle.desk.proofs.step.put_row.Statement.{statement}
-use Rattle.desk.proofs.step.put_row.Tie as tie
+use Rattle.table.proofs.rows.put_row.Statement.{statement}
+use Rattle.table.proofs.rows.put_row.Tie as tie
 
 mul-words : tie.Need-mul-words
 mul-words c = search needs

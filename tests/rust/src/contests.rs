@@ -1,0 +1,108 @@
+//! Compares the program `contest` with the model on every small table and on random
+//! inputs, byte for byte.
+
+use crate::comparison::{Comparison, Stage, DEFAULT_SEED};
+use crate::contest::{run, run_by, Judge, Line, INPUT_LIMIT, RIGHT, SEARCHED_TICKS};
+use crate::contest_inputs::KINDS;
+use crate::contest_promises::objection;
+use crate::contest_tables::{ordered_tables, shuffled, small_rows, unordered_tables};
+use crate::contest_tally::{ContestTally, TableTally};
+use crate::game::RULES;
+use crate::inputs::random_input;
+use crate::nodes::count;
+use crate::options::{fail, Options};
+use crate::rng::Rng;
+use crate::table::Row;
+
+/// From this many random inputs on, nothing may be too rare.
+const FULL_COUNT: u64 = 3_000;
+/// Every table with T up to this one is compared.
+const LONGEST: u32 = 5;
+
+/// Compares the program of the command line. `--tables` says which small tables: `once`
+/// each one in some order of its rows, `every` in every order, `none`. With `--calls` no
+/// random input is taken whose search makes more calls, for a runner that is slow.
+pub fn compare() {
+    let known = [
+        "--program",
+        "--runner",
+        "--count",
+        "--seed",
+        "--tables",
+        "--calls",
+    ];
+    let options = Options::read(&known);
+    let seed = options.number("--seed", DEFAULT_SEED);
+    let stages = [Stage::new(&options, "--program", run).with(objection)];
+    let tables = tables(options.text("--tables").unwrap_or("once"), seed);
+    if !tables.is_empty() {
+        compare_tables(&stages, seed, &tables);
+    }
+    let count = options.number("--count", FULL_COUNT);
+    compare_random(&stages, seed, count, options.number("--calls", u64::MAX));
+}
+
+fn compare_tables(stages: &[Stage], seed: u64, tables: &[Vec<Row>]) {
+    let comparison = Comparison {
+        stages,
+        limit: INPUT_LIMIT,
+        kinds: &["small tables"],
+        input: &|case| (0, with_every_question(&tables[case as usize])),
+        cases: tables.len() as u64,
+        seed,
+    };
+    comparison.conclude::<TableTally>(true);
+}
+
+fn compare_random(stages: &[Stage], seed: u64, count: u64, most_calls: u64) {
+    let comparison = Comparison {
+        stages,
+        limit: INPUT_LIMIT,
+        kinds: &KINDS.iter().map(|kind| kind.name).collect::<Vec<_>>(),
+        input: &|case| {
+            let rng = &mut Rng::for_case(seed, case);
+            loop {
+                let (kind, input) = random_input(KINDS, rng);
+                if most_calls == u64::MAX || calls(&input) <= most_calls {
+                    return (kind, input);
+                }
+            }
+        },
+        cases: count,
+        seed,
+    };
+    comparison.conclude::<ContestTally>(count >= FULL_COUNT);
+}
+
+/// How many calls a plain search makes for the questions of an input.
+pub fn calls(input: &[u8]) -> u64 {
+    let asked = run_by(&RIGHT, &mut Judge::new(RULES), input).asked;
+    let answered = asked.iter().filter(|asked| asked.is_answered());
+    answered
+        .map(|asked| count(&asked.rows, asked.n).1.sum())
+        .sum()
+}
+
+/// The small tables that are compared.
+fn tables(which: &str, seed: u64) -> Vec<Vec<Row>> {
+    let rows = small_rows(LONGEST);
+    match which {
+        "every" => ordered_tables(&rows),
+        "once" => {
+            let tables = unordered_tables(&rows).into_iter().zip(0..);
+            let ordered = tables.map(|(rows, case)| shuffled(&mut Rng::for_case(seed, case), rows));
+            ordered.collect()
+        }
+        "none" => Vec::new(),
+        _ => fail("--tables: expected once, every or none"),
+    }
+}
+
+/// A table with a question for each number of ticks that the search takes.
+pub fn with_every_question(rows: &[Row]) -> Vec<u8> {
+    let rows = rows.iter().copied().map(Line::Row);
+    let questions = (1..=SEARCHED_TICKS as u32).map(Line::Question);
+    let mut text = Vec::new();
+    rows.chain(questions).for_each(|line| line.write(&mut text));
+    text
+}
