@@ -31,18 +31,18 @@ module _ (f : ℕ → List ℕ) (m n : ℕ) (d : List ℕ) (at : ℕ) where
     joined-room h =
         omega (arith, x .text .place, x .text .short, x .room, x .length, mul-le-mul-left {m = suc i} {n = n} m h)
 
-    pub joined-next : (g : List ℕ) (q : ℕ) → i < n → Wrote m (f i) e g p q → Joined f m n d at (i + 1) g q
+    pub joined-next : (u g : List ℕ) (q : ℕ) → i < n → Wrote m u e g p q → u ≡ f i → Joined f m n d at (i + 1) g q
     unfolding joinTo
-    joined-next g q h y =
+    joined-next u g q h y same =
         let t = x .text in
         let more : m * i + m ≡ m * (i + 1) = omega arith in
         record {
           room = x .room;
           within = omega arith;
-          length = wrote-length m (f i) e g p q (omega (arith, joined-room h, y .short)) y ∙ x .length;
+          length = wrote-length m u e g p q (omega (arith, joined-room h, y .short)) y ∙ x .length;
           text =
-              rw (← more, add-one)
-              (wrote-more (m * i) m (joinTo f i) (f i) d e g at p q (omega (arith, t .short, t .place, joined-room h, x .length)) t y);
+              rw (← more, add-one, ← same)
+              (wrote-more (m * i) m (joinTo f i) u d e g at p q (omega (arith, t .short, t .place, joined-room h, x .length)) t y);
         }
 
     pub joined-all : n ≤ i → Wrote (m * n) (joinTo f n) d e at p

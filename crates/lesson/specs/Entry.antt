@@ -1,14 +1,14 @@
 -- The loop over the lines, and the entry point. Assumes nothing.
 use Prim.Native.Nat.{ℕ, _+_, _-_, _*_, _≤_, _<_, min}
-use mathlib.Core.Path.{_≡_, refl, sym, ap, subst, _∙_}
-use mathlib.Core.Bool.{Bool, true, false, cond}
+use mathlib.Core.Path.{_≡_, refl, ap, subst, _∙_}
+use mathlib.Core.Bool.{true, false, cond}
 use mathlib.Core.List.{List, [], _++_, append-nil}
 use native.Mathlib.Numerals.{add-one}
 use native.Mathlib.Omega.{arith}
 use lib.ListN.{length, take, drop}
 use Rattle.decimal.specs.Buffer.{Wrote, Owing, owing-start, owing-next, owing-last}
 use Rattle.lines.specs.Lines.{lines-none}
-use Rattle.report.specs.Whole.{Filled, printed, filled-short, limit-is, read-limit}
+use Rattle.report.specs.Whole.{printed, filled-short, limit-is, read-limit}
 use Rattle.lesson.specs.declared.item.Item.the-variants.{Unreadable}
 use Rattle.lesson.specs.declared.item.Next.{Next}
 use Rattle.lesson.specs.declared.step.Progress.{Progress}

@@ -1,16 +1,15 @@
 -- The code that writes an answer. Assumes nothing.
 use Prim.Native.Nat.{ℕ, _+_, _*_, _%_, _≤_, _<_}
 use mathlib.Core.Path.{_≡_, refl, sym, ap, subst, _∙_}
-use mathlib.Core.Bool.{Bool, true, false, _&&_, and-false}
-use mathlib.Core.List.{List, [], _∷_, _++_, append-nil}
+use mathlib.Core.Bool.{Bool, false, and-false}
+use mathlib.Core.List.{List, append-nil}
 use mathlib.Core.Logic.{dite}
 use native.Mathlib.Omega.{arith}
 use native.Mathlib.Decide.{decLt}
-use lib.Dec.{leb, ltb, eqb}
+use lib.Dec.{ltb}
 use lib.ListN.{length}
 use borrow.Author.Tests.{lt-ltb, le-ltb, ltb-true, ltb-false, le-leb, lt-leb, eq-eqb, ne-eqb}
-use Rattle.bounded.specs.Least.{leastFrom, Passed, passed-start, passed-next, first-found, first-none, least-low, least-high, least-at, least-before, least-found}
-use Rattle.bounded.specs.Tests.{both}
+use Rattle.bounded.specs.Least.{Passed, passed-start, passed-next, first-found, first-none, least-at, least-before}
 use Rattle.decimal.specs.Buffer.{Wrote, wrote-none, wrote-more, wrote-within}
 use Rattle.decimal.specs.Joined.{Joined, joined-start, joined-all, joined-laws}
 use Rattle.edf.specs.Demand.{TaskSet, demand}
@@ -21,7 +20,6 @@ use Rattle.table.specs.declared.rows.Task.{Task}
 use Rattle.table.specs.Rows.{tasksOf, Fit, FitRow}
 use Rattle.gametree.specs.declared.Finding.{Finding}
 use Rattle.gametree.specs.declared.Finding.the-variants.{Forced, Held, Refused}
-use Rattle.gametree.specs.Bounds.{Playing}
 use Rattle.gametree.specs.Entry.{searchOf, numbersOf}
 use Rattle.gametree.specs.Theorems.{search-exact, forced-playing}
 use Rattle.lesson.specs.Lesson.{overloadBy, releaseText, tickText, releasesText, shownText, findingText, answerText}

@@ -1,10 +1,10 @@
 -- The proof of Statement.antt. Assumes nothing.
 use Prim.Native.Nat.{ℕ, suc, _+_, _*_, _%_, _≤_, _<_}
-use mathlib.Core.Path.{_≡_, refl, sym, ap, _∙_}
-use mathlib.Core.Bool.{Bool, true, false, cond, _&&_}
+use mathlib.Core.Path.{_≡_, refl, ap, _∙_}
+use mathlib.Core.Bool.{true, false}
 use mathlib.Core.List.{List, [], _∷_, _++_, append-assoc, append-nil}
 use native.Mathlib.Omega.{arith}
-use lib.Dec.{leb, ltb, eqb}
+use lib.Dec.{ltb, eqb}
 use lib.ListN.{length, length-append}
 use borrow.Author.Tests.{lt-ltb, ltb-true, leb-true, eq-eqb, ne-eqb}
 use Rattle.bounded.specs.Tests.{both, and-true}
@@ -13,17 +13,14 @@ use Rattle.game.specs.Game.{lineTo}
 use Rattle.game.specs.Theorems.{line-wins}
 use Rattle.lines.specs.Text.{lineText, line-length}
 use Rattle.table.specs.Rows.{tasksOf, fit-lawful}
-use Rattle.gametree.specs.declared.Finding.{Finding}
-use Rattle.gametree.specs.declared.Finding.the-variants.{Forced}
 use Rattle.gametree.specs.Entry.{searchOf, numbersOf}
 use Rattle.gametree.specs.Theorems.{forced-playing}
-use Rattle.report.specs.Rows.{rowWords, words-length}
+use Rattle.report.specs.Rows.{rowWords}
 use Rattle.lesson.specs.declared.item.Item.{Item}
 use Rattle.lesson.specs.declared.item.Item.the-variants.{Row, Ask, Unreadable}
-use Rattle.lesson.specs.Item.{itemsOf}
-use Rattle.lesson.specs.Lesson.{inputLimit, overloadBy, lineOfReleases, findingText, answerText, Table, noTable, unread, added, answered, stepOf, closing, answersFrom, outputOf}
+use Rattle.lesson.specs.Lesson.{overloadBy, lineOfReleases, findingText, answerText, Table, noTable, added, stepOf, answersFrom, outputOf}
 use Rattle.lesson.specs.Put.{forced-within, forced-over}
-use Rattle.lesson.specs.Statement.{Printed, PrintedLineWins, NeverEmpty, rowItems, RowsAsked}
+use Rattle.lesson.specs.Statement.{PrintedLineWins, NeverEmpty, rowItems, RowsAsked}
 
 -- ---- the line of releases
 

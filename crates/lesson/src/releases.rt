@@ -1,6 +1,6 @@
 // The answer to a question, and the line of releases that wins (docs/SPECIFICATION.md §13.4). Internal: `step` has seen to the room.
 ghost use mathlib.Core.Path.{_≡_};
-ghost use Prim.Native.Nat.{_+_, _*_, _≤_, _<_};
+ghost use Prim.Native.Nat.{_+_, _≤_, _<_};
 ghost use lib.ListN.{length};
 ghost use Rattle.decimal.specs.Buffer.{Wrote};
 ghost use Rattle.table.specs.Rows.{tasksOf, Fit};

@@ -1,16 +1,16 @@
 -- The code that writes what is printed of an opinion. Assumes nothing.
-use Prim.Native.Nat.{ℕ, _+_, _*_, _≤_, _<_}
+use Prim.Native.Nat.{ℕ, _+_, _*_, _≤_}
 use mathlib.Core.Path.{_≡_, refl, sym, ap, _∙_}
 use mathlib.Core.Bool.{Bool, true, false, true≢false, false≢true}
 use mathlib.Core.List.{List, [], _∷_, _++_, append-nil}
-use native.Mathlib.Numerals.{add-one}
 use native.Mathlib.Omega.{arith}
 use lib.IntN.{ℤ, pos, negsuc, natAbs}
 use lib.ListN.{length, getD}
 use borrow.Author.Tests.{eq-eqb, ne-eqb}
 use Rattle.bounded.specs.Signed.{negative}
 use Rattle.decimal.specs.Decimal.{decimal}
-use Rattle.decimal.specs.Buffer.{Wrote, wrote-none, wrote-length, wrote-more, wrote-within}
+use Rattle.decimal.specs.Buffer.{Wrote, wrote-more, wrote-within}
+use Rattle.decimal.specs.Joined.{Joined, joined-start, joined-all, joined-laws}
 use Rattle.lines.specs.Text.{headText, lineText}
 use Rattle.table.specs.declared.Numbers.{Numbers}
 use Rattle.table.specs.declared.Judgement.{Judgement}
@@ -50,46 +50,19 @@ budget-is i v w d e f at p q l r x y =
 
 -- ---- `put_budgets`
 
--- what the code requires, and that the lines of the first i rows were written; p is the place past them
-pub record Listed (v : List ℤ) (rows : ℕ) (d : List ℕ) (at i : ℕ) (e : List ℕ) (p : ℕ) : Type 0 where
-  pub few : rows ≤ 16
-  pub room : at + 1392 ≤ length d
-  pub within : i ≤ rows
-  pub length : length e ≡ length d
-  pub text : Wrote (87 * i) (budgetsText v i) d e at p
+-- the line of row i
+abbrev pub budgetAt : List ℤ → ℕ → List ℕ
+budgetAt v i = budgetText i (getD v i (pos 0))
 
 module _ (v : List ℤ) (rows : ℕ) (d : List ℕ) (at : ℕ) where
-  pub listed-start : rows ≤ 16 → at + 1392 ≤ length d → Listed v rows d at 0 d at
+  pub budgets-start : rows ≤ 16 → at + 1392 ≤ length d → Joined (budgetAt v) 87 rows d at 0 d at
+  budgets-start few room = joined-start (budgetAt v) 87 rows d at (omega arith)
+
+  pub budgets-end : (i : ℕ) (e : List ℕ) (p : ℕ) → Joined (budgetAt v) 87 rows d at i e p → rows ≤ i → Wrote (87 * rows) (budgetsText v rows) d e at p
   unfolding budgetsText
-  listed-start few room = record {
-    few = few;
-    room = room;
-    within = omega arith;
-    length = refl;
-    text = wrote-none 0 d at;
-  }
+  budgets-end i e p x h = joined-all (budgetAt v) 87 rows d at i e p x h
 
-  module _ (i : ℕ) (e : List ℕ) (p : ℕ) (x : Listed v rows d at i e p) where
-    pub listed-next : (u f : List ℕ) (q : ℕ) → i < rows → Wrote 87 u e f p q → u ≡ budgetText i (getD v i (pos 0))
-        → Listed v rows d at (i + 1) f q
-    unfolding budgetsText
-    listed-next u f q h y r =
-        let t = x .text in
-        let more : 87 * i + 87 ≡ 87 * (i + 1) = omega arith in
-        record {
-          few = x .few;
-          room = x .room;
-          within = omega arith;
-          length = wrote-length 87 u e f p q (omega arith) y ∙ x .length;
-          text =
-              rw (← more, add-one, ← r)
-              (wrote-more (87 * i) 87 (budgetsText v i) u d e f at p q (omega arith) t y);
-        }
-
-    pub listed-all : rows ≤ i → Wrote (87 * rows) (budgetsText v rows) d e at p
-    listed-all h = let all : i ≡ rows = omega arith in rw all at (x .text)
-
-pub ruleset listed-laws = (listed-start, listed-next, listed-all)
+pub ruleset budgets-laws = (budgets-start, budgets-end, joined-laws)
 
 -- ---- `put_opinion`
 

@@ -1,12 +1,13 @@
 -- What is printed of an opinion: the line `M` and, for each row of an admitted table, a line `B` (docs/SPECIFICATION.md §8.3).
 -- Assumes nothing.
-use Prim.Native.Nat.{ℕ, zero, suc}
+use Prim.Native.Nat.{ℕ, suc}
 use mathlib.Core.Bool.{cond}
 use mathlib.Core.List.{List, [], _∷_, _++_}
 use lib.Dec.{eqb}
 use lib.IntN.{ℤ, pos, negsuc}
 use lib.ListN.{getD}
 use Rattle.decimal.specs.Decimal.{decimal}
+use Rattle.decimal.specs.Joined.{joinTo}
 use Rattle.lines.specs.Text.{headText, lineText}
 use Rattle.table.specs.Verdict.{Opinion}
 
@@ -21,8 +22,7 @@ budgetText i v = headText 0 66 0 i ++ (signedText v ++ 10 ∷ [])
 
 -- one for each of n rows
 unfoldable pub budgetsText : List ℤ → ℕ → List ℕ
-budgetsText v zero = []
-budgetsText v (suc n) = budgetsText v n ++ budgetText n (getD v n (pos 0))
+budgetsText v n = joinTo (λ i. budgetText i (getD v i (pos 0))) n
 
 -- letter `M`: kind and rows, or the refusal; then the budgets of an admitted table, whose second value is its rows
 unfoldable pub opinionText : Opinion → List ℕ

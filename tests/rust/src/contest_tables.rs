@@ -1,7 +1,6 @@
 //! Every small table, for the comparison of `contest` and for counts of its search.
 
 use crate::game::MOST_ROWS;
-use crate::rng::Rng;
 use crate::table::Row;
 
 /// Every row with 1 ≤ C ≤ D ≤ T up to a longest T.
@@ -23,6 +22,16 @@ pub fn ordered_tables(rows: &[Row]) -> Vec<Vec<Row>> {
 /// Every table of 1 to 3 of these rows, once, its rows in the order of the list.
 pub fn unordered_tables(rows: &[Row]) -> Vec<Vec<Row>> {
     tables(rows, |last| last)
+}
+
+/// The tables whose rows are in no order of the list, so that with those of
+/// `unordered_tables` they are all.
+pub fn other_orders(rows: &[Row]) -> Vec<Vec<Row>> {
+    let place = |row: &Row| rows.iter().position(|listed| listed == row);
+    let tables = ordered_tables(rows).into_iter();
+    tables
+        .filter(|table| !table.is_sorted_by_key(place))
+        .collect()
 }
 
 /// The tables whose rows follow one another from `from` of the last one's place on.
@@ -56,12 +65,4 @@ pub fn period_triples(longest: u32) -> Vec<Vec<Row>> {
         .collect();
     let tables = ordered_tables(&rows).into_iter();
     tables.filter(|rows| rows.len() == MOST_ROWS).collect()
-}
-
-/// The same rows in a random order.
-pub fn shuffled(rng: &mut Rng, mut rows: Vec<Row>) -> Vec<Row> {
-    for place in (1..rows.len()).rev() {
-        rows.swap(place, rng.below(place + 1));
-    }
-    rows
 }

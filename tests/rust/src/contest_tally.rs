@@ -395,13 +395,59 @@ impl fmt::Display for ContestTally {
     }
 }
 
-/// What the small tables reach, each with every question that the search takes.
+/// What the games on small tables come to.
 #[derive(Default)]
-pub struct TableTally {
-    all: ContestTally,
-    /// Tables in which arrivals win within 12 ticks, by the least t.
+pub struct AnswerTally {
+    asked: u64,
+    /// Tables in which arrivals win within 12 ticks, by the least N.
     by_least: [u64; SEARCHED_TICKS as usize],
     held: u64,
+}
+
+impl Reached for AnswerTally {
+    fn add(&mut self, input: &[u8]) -> Vec<u8> {
+        let run = run_by(&RIGHT, &mut Judge::new(RULES), input);
+        self.asked += run.asked.len() as u64;
+        let is_forced = |asked: &&Asked| asked.verdict == Verdict::Forced;
+        match run.asked.iter().find(is_forced) {
+            Some(first) => self.by_least[first.n as usize - 1] += 1,
+            None => self.held += 1,
+        }
+        run.output
+    }
+
+    fn merge(&mut self, other: AnswerTally) {
+        self.asked += other.asked;
+        add_all(&mut self.by_least, other.by_least);
+        self.held += other.held;
+    }
+
+    fn gaps(&self, inputs: u64) -> Vec<String> {
+        let forced = self.by_least.iter().sum();
+        let counts = [(self.held, 40, "are held"), (forced, 2, "are forced")];
+        too_rare(inputs, &counts)
+    }
+}
+
+impl fmt::Display for AnswerTally {
+    fn fmt(&self, formatter: &mut fmt::Formatter) -> fmt::Result {
+        let by_least = self.by_least.iter().zip(1..);
+        let by_least = by_least.map(|(count, n)| format!("{n}:{count}"));
+        write!(
+            formatter,
+            "{} questions; {} tables are held for 12 ticks, and forced are, by the least N, {}",
+            self.asked,
+            self.held,
+            by_least.collect::<Vec<_>>().join(" ")
+        )
+    }
+}
+
+/// The same, and in how many of the tables a wrong reading of the game would show.
+#[derive(Default)]
+pub struct TableTally {
+    answers: AnswerTally,
+    all: ContestTally,
 }
 
 impl TableTally {
@@ -413,27 +459,18 @@ impl TableTally {
 
 impl Reached for TableTally {
     fn add(&mut self, input: &[u8]) -> Vec<u8> {
-        let output = self.all.add(input);
-        let asked = run_by(&RIGHT, &mut Judge::new(RULES), input).asked;
-        let first = asked.iter().find(|asked| asked.verdict == Verdict::Forced);
-        match first {
-            Some(first) => self.by_least[first.n as usize - 1] += 1,
-            None => self.held += 1,
-        }
-        output
+        self.all.add(input);
+        self.answers.add(input)
     }
 
     fn merge(&mut self, other: TableTally) {
+        self.answers.merge(other.answers);
         self.all.merge(other.all);
-        add_all(&mut self.by_least, other.by_least);
-        self.held += other.held;
     }
 
     fn gaps(&self, inputs: u64) -> Vec<String> {
         let mut gaps = gaps_in(inputs, &self.of_game());
-        let forced = self.by_least.iter().sum();
-        let counts = [(self.held, 40, "are held"), (forced, 2, "are forced")];
-        gaps.extend(too_rare(inputs, &counts));
+        gaps.extend(self.answers.gaps(inputs));
         gaps.extend(self.all.equal_gaps());
         gaps
     }
@@ -441,15 +478,10 @@ impl Reached for TableTally {
 
 impl fmt::Display for TableTally {
     fn fmt(&self, formatter: &mut fmt::Formatter) -> fmt::Result {
-        let by_least = self.by_least.iter().zip(1..);
-        let by_least = by_least.map(|(count, n)| format!("{n}:{count}"));
         write!(
             formatter,
-            "{} questions; {} tables are held for 12 ticks, and forced are, by the least N, {}; \
-             wrong readings: {}; {}",
-            self.all.asked,
-            self.held,
-            by_least.collect::<Vec<_>>().join(" "),
+            "{}; wrong readings: {}; {}",
+            self.answers,
             listed(&self.of_game()),
             never(&self.all.of_equal(Wrong::is_game))
         )

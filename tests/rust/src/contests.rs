@@ -1,12 +1,12 @@
 //! Compares the program `contest` with the model on every small table and on random
 //! inputs, byte for byte.
 
-use crate::comparison::{Comparison, Stage, DEFAULT_SEED};
+use crate::comparison::{Comparison, Reached, Stage, DEFAULT_SEED};
 use crate::contest::{run, run_by, Judge, Line, INPUT_LIMIT, RIGHT, SEARCHED_TICKS};
 use crate::contest_inputs::KINDS;
 use crate::contest_promises::objection;
-use crate::contest_tables::{ordered_tables, shuffled, small_rows, unordered_tables};
-use crate::contest_tally::{ContestTally, TableTally};
+use crate::contest_tables::{other_orders, small_rows, unordered_tables};
+use crate::contest_tally::{AnswerTally, ContestTally, TableTally};
 use crate::game::RULES;
 use crate::inputs::random_input;
 use crate::nodes::count;
@@ -19,9 +19,9 @@ const FULL_COUNT: u64 = 3_000;
 /// Every table with T up to this one is compared.
 const LONGEST: u32 = 5;
 
-/// Compares the program of the command line. `--tables` says which small tables: `once`
-/// each one in some order of its rows, `every` in every order, `none`. With `--calls` no
-/// random input is taken whose search makes more calls, for a runner that is slow.
+/// Compares the program of the command line. With `--tables none` the small tables are left
+/// out. With `--calls` no random input is taken whose search makes more calls, for a runner
+/// that is slow.
 pub fn compare() {
     let known = [
         "--program",
@@ -33,25 +33,41 @@ pub fn compare() {
     ];
     let options = Options::read(&known);
     let seed = options.number("--seed", DEFAULT_SEED);
-    let stages = [Stage::new(&options, "--program", run).with(objection)];
-    let tables = tables(options.text("--tables").unwrap_or("once"), seed);
-    if !tables.is_empty() {
-        compare_tables(&stages, seed, &tables);
+    match options.text("--tables").unwrap_or("every") {
+        "every" => compare_tables(&options, seed),
+        "none" => (),
+        _ => fail("--tables: expected every or none"),
     }
     let count = options.number("--count", FULL_COUNT);
-    compare_random(&stages, seed, count, options.number("--calls", u64::MAX));
+    let most_calls = options.number("--calls", u64::MAX);
+    compare_random(&[stage(&options)], seed, count, most_calls);
 }
 
-fn compare_tables(stages: &[Stage], seed: u64, tables: &[Vec<Row>]) {
+fn stage(options: &Options) -> Stage {
+    Stage::new(options, "--program", run).with(objection)
+}
+
+/// Every small table with every question. What is asked of the outputs besides, and the wrong
+/// readings, do not depend on the order of the rows.
+fn compare_tables(options: &Options, seed: u64) {
+    let rows = small_rows(LONGEST);
+    let plain = Stage::new(options, "--program", run);
+    let tables = unordered_tables(&rows);
+    compare_all::<TableTally>(&[stage(options)], seed, "small tables", &tables);
+    let tables = other_orders(&rows);
+    compare_all::<AnswerTally>(&[plain], seed, "their rows in other orders", &tables);
+}
+
+fn compare_all<R: Reached>(stages: &[Stage], seed: u64, kind: &'static str, tables: &[Vec<Row>]) {
     let comparison = Comparison {
         stages,
         limit: INPUT_LIMIT,
-        kinds: &["small tables"],
+        kinds: &[kind],
         input: &|case| (0, with_every_question(&tables[case as usize])),
         cases: tables.len() as u64,
         seed,
     };
-    comparison.conclude::<TableTally>(true);
+    comparison.conclude::<R>(true);
 }
 
 fn compare_random(stages: &[Stage], seed: u64, count: u64, most_calls: u64) {
@@ -81,21 +97,6 @@ pub fn calls(input: &[u8]) -> u64 {
     answered
         .map(|asked| count(&asked.rows, asked.n).1.sum())
         .sum()
-}
-
-/// The small tables that are compared.
-fn tables(which: &str, seed: u64) -> Vec<Vec<Row>> {
-    let rows = small_rows(LONGEST);
-    match which {
-        "every" => ordered_tables(&rows),
-        "once" => {
-            let tables = unordered_tables(&rows).into_iter().zip(0..);
-            let ordered = tables.map(|(rows, case)| shuffled(&mut Rng::for_case(seed, case), rows));
-            ordered.collect()
-        }
-        "none" => Vec::new(),
-        _ => fail("--tables: expected once, every or none"),
-    }
 }
 
 /// A table with a question for each number of ticks that the search takes.
