@@ -22,6 +22,7 @@ pub record Means (l : List ℕ) (n : ℕ) (r : Finding) : Type 0 where
   pub exceeds : r ≡ Forced → Exceeds (tasksOf l) n
   pub holds : r ≡ Held → Forces (tasksOf l) n opening → ⊥
   pub within : r ≡ Held → Exceeds (tasksOf l) n → ⊥
+  pub exceeded : playableOf l n ≡ true → Exceeds (tasksOf l) n → r ≡ Forced
   pub refuses : r ≡ Refused → playableOf l n ≡ false
 
 abbrev pub SearchExact : Type 0

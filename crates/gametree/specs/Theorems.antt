@@ -66,6 +66,7 @@ module _ (l : List ℕ) (n : ℕ) (r : Finding) where
       exceeds = λ z. unlike r Refused Forced is z (λ q. omega (arith, q));
       holds = λ z. unlike r Refused Held is z (λ q. omega (arith, q));
       within = λ z. unlike r Refused Held is z (λ q. omega (arith, q));
+      exceeded = λ t. absurd (true≢false (sym t ∙ e));
       refuses = λ z. e;
     },
   )
@@ -79,6 +80,7 @@ module _ (l : List ℕ) (n : ℕ) (r : Finding) where
         exceeds = λ z. game .exceeds won;
         holds = λ z. unlike r Forced Held is z (λ q. omega (arith, q));
         within = λ z. unlike r Forced Held is z (λ q. omega (arith, q));
+        exceeded = λ t x. is;
         refuses = λ z. unlike r Forced Refused is z (λ q. omega (arith, q));
       },
     )
@@ -91,6 +93,7 @@ module _ (l : List ℕ) (n : ℕ) (r : Finding) where
         exceeds = λ z. unlike r Held Forced is z (λ q. omega (arith, q));
         holds = λ z. not-won;
         within = λ z x. not-won (game .forces x);
+        exceeded = λ t x. absurd (not-won (game .forces x));
         refuses = λ z. unlike r Held Refused is z (λ q. omega (arith, q));
       },
     )

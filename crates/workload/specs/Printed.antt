@@ -9,6 +9,7 @@ use lib.IntN.{ℤ, pos, negsuc}
 use lib.ListN.{length, getD, drop}
 use borrow.Author.Tests.{lt-ltb}
 use Rattle.decimal.specs.Decimal.{decimal}
+use Rattle.decimal.specs.Joined.{joinTo}
 use Rattle.lines.specs.declared.read.Call.{Call}
 use Rattle.lines.specs.declared.read.Call.the-variants.{Arrive, Choose, Advance, Finish}
 use Rattle.lines.specs.declared.read.Line.{Line}
@@ -75,12 +76,16 @@ unfolding without
 signed-one (pos n) = number-without 10 n (omega arith)
 signed-one (negsuc n) = number-without 10 (suc n) (omega arith)
 
+fine-joined : (f : ℕ → List ℕ) (n : ℕ) → ((i : ℕ) → Fine (f i)) → Fine (joinTo f n)
+unfolding joinTo
+fine-joined f zero h = fine-none
+fine-joined f (suc n) h = fine-more (joinTo f n) (f n) (fine-joined f n h) (h n)
+
 fine-budgets : (v : List ℤ) (n : ℕ) → Fine (budgetsText v n)
 unfolding budgetsText
-fine-budgets v zero = fine-none
-fine-budgets v (suc n) =
-    fine-more (budgetsText v n) (budgetText n (getD v n (pos 0))) (fine-budgets v n)
-    (fine-line 0 66 n (signedText (getD v n (pos 0))) refl refl (signed-one (getD v n (pos 0))))
+fine-budgets v n =
+    fine-joined (λ i. budgetText i (getD v i (pos 0))) n
+    (λ i. fine-line 0 66 i (signedText (getD v i (pos 0))) refl refl (signed-one (getD v i (pos 0))))
 
 -- of an admitted table
 pub fine-opinion : (a : Opinion) → a .number ≡ 0 → Fine (opinionText a)
