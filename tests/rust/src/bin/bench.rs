@@ -1,6 +1,7 @@
 //! Times a program against the model: `shuffle` on the heaviest inputs; or `opinions`, with
-//! `--set opinions`, on files of 16-row tables; or `load`, with `--set load`, on seeds. It
-//! keeps the inputs in a folder for other measurements.
+//! `--set opinions`, on files of 16-row tables; or `load`, with `--set load`, on seeds; or
+//! `contest`, with `--set contest`, on questions. It keeps the inputs in a folder for other
+//! measurements.
 
 use std::fs;
 use std::io::{self, Write};
@@ -10,6 +11,7 @@ use std::time::Instant;
 
 use shuffle_model::calls::{candidates, lengths, limit, WORDS};
 use shuffle_model::comparison::Model;
+use shuffle_model::contest;
 use shuffle_model::driver::{table_text, Driver};
 use shuffle_model::opinions;
 use shuffle_model::options::{fail, Options};
@@ -27,6 +29,7 @@ fn main() {
         "shuffle" => (run, inputs()),
         "opinions" => (opinions::run, desks()),
         "load" => (load, seeds()),
+        "contest" => (contest::run, questions()),
         set => fail(&format!("--set: {set} is no set of inputs")),
     };
     let bench = Bench {
@@ -132,6 +135,26 @@ fn build(rows: &[Row], kind: Kind, step: fn(&mut Driver)) -> Vec<u8> {
     let whole_lines = text.iter().rposition(|byte| *byte == b'\n');
     text.truncate(whole_lines.map_or(0, |newline| newline + 1));
     text
+}
+
+/// The questions that take the plain search longest, and shorter ones.
+fn questions() -> Vec<Named> {
+    let asked = |rows: &[[u32; 3]], n: u32| {
+        let rows: Vec<Row> = rows.iter().copied().map(Row::from).collect();
+        [table_text(&rows), format!("N\t{n}\n").into_bytes()].concat()
+    };
+    vec![
+        ("held, 2 rows", asked(&[[1, 3, 3], [2, 5, 4]], 12)),
+        (
+            "forced, 3 rows, N 9",
+            asked(&[[1, 3, 3], [2, 5, 4], [3, 9, 9]], 9),
+        ),
+        (
+            "the worst held",
+            asked(&[[1, 5, 5], [1, 3, 3], [1, 2, 2]], 12),
+        ),
+        ("the worst forced", asked(&[[12, 12, 12]; 3], 12)),
+    ]
 }
 
 /// 1,000 tables of 16 rows, of each class.

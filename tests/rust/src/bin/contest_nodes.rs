@@ -1,5 +1,7 @@
 //! Counts the calls of a plain search of the game within 12 ticks, for docs/PERFORMANCE.md:
-//! which tables take the most.
+//! which tables take the most, and how long.
+
+use std::time::Instant;
 
 use shuffle_model::contest_tables::{period_triples, small_tables};
 use shuffle_model::nodes::{count, Nodes};
@@ -14,6 +16,7 @@ struct Counted {
     rows: Vec<Row>,
     forced: bool,
     nodes: Nodes,
+    milliseconds: f64,
 }
 
 fn main() {
@@ -23,11 +26,13 @@ fn main() {
     let longest = options.number("--periods", 13);
     let each = |tables: Vec<Vec<Row>>| -> Vec<Counted> {
         let counted = tables.into_iter().map(|rows| {
+            let start = Instant::now();
             let (forced, nodes) = count(&rows, ticks);
             Counted {
                 rows,
                 forced,
                 nodes,
+                milliseconds: start.elapsed().as_secs_f64() * 1_000.0,
             }
         });
         counted.collect()
@@ -63,8 +68,9 @@ fn line(counted: &Counted) -> String {
         moves,
     } = counted.nodes;
     format!(
-        "{}: {} calls: {arrivals} of arrivals, {scheduler} of the scheduler, {moves} moves",
+        "{}: {} calls: {arrivals} of arrivals, {scheduler} of the scheduler, {moves} moves; {:.0} ms",
         rows.collect::<Vec<_>>().join(" / "),
-        counted.nodes.sum()
+        counted.nodes.sum(),
+        counted.milliseconds
     )
 }
