@@ -12,7 +12,7 @@ use Rattle.bounded.specs.Tests.{both}
 use Rattle.bounded.specs.Quotient.{ceilDiv, ceil-more}
 use Rattle.edf.specs.Jobs.{jobsBy, jobs-mono, jobs-none, jobs-first, jobs-one, jobs-ceil, jobs-room}
 use Rattle.edf.specs.Demand.{TaskSet, Lawful, rowRequest, interference}
-use Rattle.edf.specs.State.{State, soonest, pending, toCome, rowLoad, load, loadBesides, WellFormed, WellFormedJob, Slack, SlackOn, Elapsed, pending-in, pending-idle, pending-later, pending-same, soonest-le, on-le}
+use Rattle.edf.specs.State.{State, soonest, pending, toCome, rowLoad, load, loadBesides, WellFormed, WellFormedJob, Same, Slack, SlackOn, Elapsed, pending-in, pending-idle, pending-later, pending-same, soonest-le, on-le}
 use Rattle.edf.specs.Steps.{Arrive}
 
 module _ (τ : TaskSet) (ok : Lawful τ) (s : State) (formed : WellFormed τ s) where
@@ -77,11 +77,21 @@ module _ (τ : TaskSet) (ok : Lawful τ) (s : State) (formed : WellFormed τ s) 
     unfolding load loadBesides
     load-arrived = omega (arith, sum-besides (rowLoad τ s (s .clock + τ .D k)) (τ .rows) k row, own-load)
 
-module _ (τ : TaskSet) (ok : Lawful τ) (s s′ : State) (formed : WellFormed τ s) (k b : ℕ) (st : Arrive τ k b s s′) where
-  -- no row's part of the load changes: where the new job is due by d, it waits now and is one less to come
-  arrive-row : (d : ℕ) → rowLoad τ s′ d k ≡ rowLoad τ s d k
+-- row k is as an arrival at the clock leaves it, whatever happens to other rows
+pub record Came (τ : TaskSet) (k : ℕ) (s s′ : State) : Type 0 where
+  pub row : k < τ .rows
+  pub ready : s .next k ≤ s .clock
+  pub clock : s′ .clock ≡ s .clock
+  pub next : s′ .next k ≡ s .clock + τ .T k
+  pub due : s′ .due k ≡ s .clock + τ .D k
+  pub left : s′ .left k ≡ τ .C k
+  pub waits : s′ .waits k ≡ true
+
+module _ (τ : TaskSet) (ok : Lawful τ) (s s′ : State) (formed : WellFormed τ s) (k : ℕ) (st : Came τ k s s′) where
+  -- its part of the load does not change: where the new job is due by d, it waits now and is one less to come
+  pub came-load : (d : ℕ) → rowLoad τ s′ d k ≡ rowLoad τ s d k
   unfolding toCome
-  arrive-row d =
+  came-load d =
       let r = ok k (st .row) in
       let e₁ : d - soonest s k ≡ d - s .clock = omega arith in
       let e₂ : d - soonest s′ k ≡ d - s .clock - τ .T k = omega arith in
@@ -97,24 +107,44 @@ module _ (τ : TaskSet) (ok : Lawful τ) (s s′ : State) (formed : WellFormed �
         jobs-none (τ .D k) (τ .T k) (d - s .clock - τ .T k) (omega arith),
       )))
 
+  pub came-formed : WellFormedJob τ s′ k
+  came-formed = let r = ok k (st .row) in record { some = omega arith; most = omega arith; deadline = omega arith; ahead = omega arith }
+
+-- another row, at the same clock
+module _ (τ : TaskSet) (s s′ : State) (i : ℕ) (e : Same s s′ i) (clock : s′ .clock ≡ s .clock) where
+  pub kept-load : (d : ℕ) → rowLoad τ s′ d i ≡ rowLoad τ s d i
+  unfolding toCome
+  kept-load d = rw (pending-same s s′ d i e, e .next, clock)
+
+  pub kept-formed : WellFormedJob τ s i → WellFormedJob τ s′ i
+  kept-formed g = record { some = omega arith; most = omega arith; deadline = omega arith; ahead = omega arith }
+
+module _ (τ : TaskSet) (ok : Lawful τ) (s s′ : State) (formed : WellFormed τ s) (k b : ℕ) (st : Arrive τ k b s s′) where
+  arrive-came : Came τ k s s′
+  arrive-came = record {
+    row = st .row;
+    ready = st .ready;
+    clock = st .clock;
+    next = st .next;
+    due = st .due;
+    left = st .left;
+    waits = st .waits;
+  }
+
   pub arrive-load : (d : ℕ) → load τ s′ d ≡ load τ s d
-  unfolding load toCome
+  unfolding load
   arrive-load d =
       sum-eq (rowLoad τ s′ d) (rowLoad τ s d) (τ .rows)
-      (λ i l. dite (ℕ-discrete i k) (λ e. rw e (arrive-row d))
-      (λ ne. let e = st .others i l ne in rw (pending-same s s′ d i e, e .next, st .clock)))
+      (λ i l. dite (ℕ-discrete i k) (λ e. rw e (came-load τ ok s s′ formed k arrive-came d))
+      (λ ne. kept-load τ s s′ i (st .others i l ne) (st .clock) d))
 
   pub arrive-soonest : (i : ℕ) → i < τ .rows → soonest s i ≤ soonest s′ i
   arrive-soonest = soonest-le τ ok s s′ (omega arith) k (st .row) (st .others) (omega arith)
 
   pub arrive-formed : WellFormed τ s′
   arrive-formed i l w =
-      dite (ℕ-discrete i k)
-      (λ e. let r = ok k (st .row) in rw e (record { some = omega arith; most = omega arith; deadline = omega arith; ahead = omega arith }))
-      (λ ne.
-      let e = st .others i l ne in
-      let g = formed i l (sym (e .waits) ∙ w) in
-      record { some = omega arith; most = omega arith; deadline = omega arith; ahead = omega arith })
+      dite (ℕ-discrete i k) (λ e. rw e (came-formed τ ok s s′ formed k arrive-came))
+      (λ ne. let e = st .others i l ne in kept-formed τ s s′ i e (st .clock) (formed i l (sym (e .waits) ∙ w)))
 
   -- a budget that the load leaves by the new deadline keeps the slack
   pub arrive-slack : load τ s (s .clock + τ .D k) + b ≤ τ .D k → Slack τ s → Slack τ s′

@@ -1,6 +1,6 @@
 -- What a release and a tick do to the load, to jobs that are well formed, and to deadlines. Assumes nothing.
 use Prim.Native.Nat.{ℕ, zero, suc, _+_, _-_, _*_, max, _≤_, _<_}
-use mathlib.Core.Path.{_≡_, refl, sym, ap}
+use mathlib.Core.Path.{_≡_, refl, sym, ap, _∙_}
 use mathlib.Core.Bool.{Bool, true, false, true≢false}
 use mathlib.Core.Logic.{dite, _⊎_, inl, inr, ⊎-elim}
 use native.Mathlib.Omega.{arith}
@@ -9,10 +9,11 @@ use lib.Dec.{ltb}
 use borrow.Author.Tests.{lt-ltb, ltb-true, ltb-false, eq-eqb, ne-eqb}
 use Rattle.bounded.specs.Sum.{sum-eq, sum-le-at}
 use Rattle.bounded.specs.Tests.{both}
-use Rattle.edf.specs.Jobs.{jobsBy, jobs-none, jobs-first}
+use Rattle.edf.specs.Jobs.{jobsBy, jobs-none}
 use Rattle.edf.specs.Demand.{TaskSet, Lawful, rowDemand, demand}
-use Rattle.edf.specs.State.{State, soonest, pending, toCome, rowLoad, load, WellFormed, WellFormedJob, Same, pending-in, pending-idle, pending-later, pending-le, pending-same, load-less}
+use Rattle.edf.specs.State.{State, soonest, pending, toCome, rowLoad, load, WellFormed, Same, pending-in, pending-idle, pending-later, pending-le, pending-same, load-less}
 use Rattle.edf.specs.Arrivals.{Tick, to, none}
+use Rattle.edf.specs.Arrive.{Came, came-load, came-formed, kept-load, kept-formed}
 use Rattle.game.specs.Game.{Position, Waits, opening, Legal, released, MayPlay, played, Missed}
 
 -- the position as a state of the scheduler; no job has a budget
@@ -32,82 +33,42 @@ waits-is p i w = lt-ltb 0 (p .left i) w
 pub is-waits : (p : Position) (i : ℕ) → stateOf p .waits i ≡ true → Waits p i
 is-waits p i e = ltb-true 0 (p .left i) e
 
--- ---- a release changes no load: where the new job is due by d, it waits now and is one less to come
+-- ---- a release changes no load, and leaves jobs well formed
 
 module _ (τ : TaskSet) (ok : Lawful τ) (p : Position) (formed : WellFormed τ (stateOf p)) (r : ℕ → Bool) (legal : Legal τ r p) where
   abbrev after : Position
   after = released τ r p
 
-  row-idle : (i : ℕ) → r i ≡ true → stateOf p .waits i ≡ false
-  row-idle i e =
+  came : (i : ℕ) → r i ≡ true → Came τ i (stateOf p) (stateOf after)
+  came i e =
       let l = legal i e in
-      both (stateOf p .waits i) (λ w. absurd (omega (arith, formed i (l .0) w, ok i (l .0), l .1))) (λ w. w)
+      let left : after .left i ≡ τ .C i = simp e in
+      record {
+        row = l .0;
+        ready = omega (arith, l .1);
+        clock = refl;
+        next = simp e;
+        due = simp e;
+        left = left;
+        waits = waits-is after i (omega (arith, left, ok i (l .0) .cost));
+      }
 
   kept : (i : ℕ) → r i ≡ false → Same (stateOf p) (stateOf after) i
   kept i e = record { next = simp e; due = simp e; left = simp e; waits = simp e }
 
-  record New (i : ℕ) : Type 0 where
-    next : after .next i ≡ p .clock + τ .T i
-    due : after .due i ≡ p .clock + τ .D i
-    left : after .left i ≡ τ .C i
-
-  new-job : (i : ℕ) → r i ≡ true → New i
-  new-job i e = record { next = simp e; due = simp e; left = simp e }
-
-  released-row : (d i : ℕ) → i < τ .rows → rowLoad τ (stateOf after) d i ≡ rowLoad τ (stateOf p) d i
-  unfolding toCome
-  released-row d i l = both (r i) (λ e. new e) (λ e. old e)
-    where
-      old : r i ≡ false → rowLoad τ (stateOf after) d i ≡ rowLoad τ (stateOf p) d i
-      old e = let same = kept i e in rw (pending-same (stateOf p) (stateOf after) d i same, same .next)
-
-      new : r i ≡ true → rowLoad τ (stateOf after) d i ≡ rowLoad τ (stateOf p) d i
-      new e =
-          let u = ok i l in
-          let h = legal i e .1 in
-          let j = new-job i e in
-          let w = waits-is after i (omega (arith, j .left, u .cost)) in
-          let e₁ : d - soonest (stateOf p) i ≡ d - p .clock = omega arith in
-          let e₂ : d - soonest (stateOf after) i ≡ d - p .clock - τ .T i = omega (arith, j .next) in
-          rw (e₁, e₂, pending-idle (stateOf p) d i (row-idle i e))
-          (dite (decLe (p .clock + τ .D i) d)
-          (λ q.
-          rw (
-            pending-in (stateOf after) d i w (omega (arith, j .due)),
-            jobs-first (τ .D i) (τ .T i) (d - p .clock) (omega arith) (omega arith) (omega arith),
-          )
-          (omega (arith, j .left)))
-          (λ q.
-          rw (
-            pending-later (stateOf after) d i (omega (arith, j .due)),
-            jobs-none (τ .D i) (τ .T i) (d - p .clock) (omega arith),
-            jobs-none (τ .D i) (τ .T i) (d - p .clock - τ .T i) (omega arith),
-          )))
-
   pub released-load : (d : ℕ) → load τ (stateOf after) d ≡ load τ (stateOf p) d
   unfolding load
-  released-load d = sum-eq (rowLoad τ (stateOf after) d) (rowLoad τ (stateOf p) d) (τ .rows) (λ i l. released-row d i l)
+  released-load d =
+      sum-eq (rowLoad τ (stateOf after) d) (rowLoad τ (stateOf p) d) (τ .rows)
+      (λ i l. both (r i) (λ e. came-load τ ok (stateOf p) (stateOf after) formed i (came i e) d)
+      (λ e. kept-load τ (stateOf p) (stateOf after) i (kept i e) refl d))
 
   pub released-formed : WellFormed τ (stateOf after)
-  released-formed i l w = both (r i) (λ e. new e) (λ e. old e)
-    where
-      new : r i ≡ true → WellFormedJob τ (stateOf after) i
-      new e =
-          let u = ok i l in
-          let j = new-job i e in
-          record { some = omega (arith, j .left); most = omega (arith, j .left); deadline = omega (arith, j .due, j .next); ahead = omega (arith, j .due) }
-
-      old : r i ≡ false → WellFormedJob τ (stateOf after) i
-      old e =
-          let same = kept i e in
-          let v : stateOf p .waits i ≡ true = simp e at w in
-          let g = formed i l v in
-          record {
-            some = omega (arith, same .left, g .some);
-            most = omega (arith, same .left, g .most);
-            deadline = omega (arith, same .due, same .next, g .deadline);
-            ahead = omega (arith, same .due, g .ahead);
-          }
+  released-formed i l w =
+      both (r i) (λ e. came-formed τ ok (stateOf p) (stateOf after) formed i (came i e))
+      (λ e.
+      let k = kept i e in
+      kept-formed τ (stateOf p) (stateOf after) i k refl (formed i l (sym (k .waits) ∙ w)))
 
 -- ---- a tick
 

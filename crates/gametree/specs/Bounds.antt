@@ -1,12 +1,13 @@
 -- What keeps the search's sums from wrapping and its indices in range. Assumes nothing.
 use Prim.Native.Nat.{ℕ, _+_, _-_, _*_, _%_, _≤_}
 use mathlib.Core.Path.{_≡_}
+use mathlib.Core.List.{List}
 use native.Mathlib.Omega.{arith}
+use lib.ListN.{length}
 use Rattle.edf.specs.Demand.{TaskSet}
 use Rattle.table.specs.Rows.{tasksOf, firstBroken, Fit, fit-of}
-use mathlib.Core.List.{List}
-use lib.ListN.{length}
 
+-- up to 3 rows that keep their rule, and no clock past 12 where these ticks are played
 pub record Playing (τ : TaskSet) (clock ticks : ℕ) : Type 0 where
   pub fit : Fit τ
   pub few : τ .rows ≤ 3

@@ -1,13 +1,12 @@
 -- The code of the search, case by case. Assumes nothing.
 use Prim.Native.Nat.{ℕ, zero, suc, _+_, _-_, _≤_, _<_}
 use mathlib.Core.Path.{_≡_, refl, sym, ap, _∙_}
-use mathlib.Core.Bool.{Bool, true, false, not, _&&_, _||_, true≢false}
+use mathlib.Core.Bool.{Bool, true, false, not, _&&_, _||_, and-true, or-true, Bool·not-not}
 use native.Mathlib.Omega.{arith}
 use lib.Dec.{leb, ltb}
 use lib.ListN.{set}
 use borrow.Author.Tests.{le-leb, lt-leb, lt-ltb, le-ltb}
-use Rattle.bounded.specs.Tests.{both}
-use Rattle.bounded.specs.All.{allTo}
+use Rattle.bounded.specs.All.{allTo, all-fails}
 use Rattle.edf.specs.Demand.{TaskSet}
 use Rattle.table.specs.declared.rows.Task.{Task}
 use Rattle.table.specs.Rows.{FitRow}
@@ -81,11 +80,7 @@ module _ (p : Board) (a : Bool) (ea : a ≡ lates p 0) where
     missed-second t = sym (missed-three p ∙ simp (sym ea ∙ na, sym eb ∙ t))
 
     pub missed-third : (c : Bool) → b ≡ false → c ≡ lates p 2 → c ≡ missedOf p
-    missed-third c nb ec = ec ∙ sym (missed-three p ∙ simp (sym ea ∙ na, sym eb ∙ nb) (twice (lates p 2)))
-      where
-        twice : (x : Bool) → not (not x) ≡ x
-        twice true = refl
-        twice false = refl
+    missed-third c nb ec = ec ∙ sym (missed-three p ∙ simp (sym ea ∙ na, sym eb ∙ nb) (Bool·not-not (lates p 2)))
 
 pub ruleset missed-cases = (missed-first, missed-second, missed-third)
 
@@ -109,55 +104,37 @@ abbrev pub lostOf : TaskSet → ℕ → Board → ℕ → Bool
 lostOf τ t p = lostBy (λ r. forcedOf τ t r) p
 
 module _ (τ : TaskSet) (t : ℕ) (p : Board) where
-  loses : (m : ℕ) (b : Bool) → b ≡ lossOf τ t p m → b ≡ true → lostOf τ t p m ≡ true
-  loses m b e h = or-right (not (mayOf p m)) (sym e ∙ h)
-    where
-      or-right : (a : Bool) {x : Bool} → x ≡ true → (a || x) ≡ true
-      or-right true q = refl
-      or-right false q = q
+  pub loses : (m : ℕ) (b : Bool) → b ≡ lossOf τ t p m → b ≡ true → lostOf τ t p m ≡ true
+  loses m b e h = simp (sym e ∙ h, or-true)
 
   keeps : (m : ℕ) (a b : Bool) → a ≡ mayOf p m → a ≡ true → b ≡ lossOf τ t p m → b ≡ false → lostOf τ t p m ≡ false
   keeps m a b q r e h = simp (sym q ∙ r) (sym e ∙ h)
-
-  more : (m i : ℕ) → m ≡ i + 1 → allTo (lostOf τ t p) m ≡ (allTo (lostOf τ t p) i && lostOf τ t p i)
-  unfolding allTo
-  more m i e = let s : m ≡ suc i = omega arith in rw s
-
-  join : (i : ℕ) → lostOf τ t p i ≡ true → (allTo (lostOf τ t p) i && lostOf τ t p i) ≡ allTo (lostOf τ t p) i
-  join i h = simp h (by (allTo (lostOf τ t p) i))
-    where
-      by : (x : Bool) → (x && true) ≡ x
-      by true = refl
-      by false = refl
 
   pub each-none : (m : ℕ) → m ≡ 0 → true ≡ allTo (lostOf τ t p) m
   unfolding allTo
   each-none m e = rw e
 
-  -- move i is known to lose
-  pub each-known : (m h : ℕ) (b : Bool) → (m ≡ 0 → ⊥) → m - 1 ≡ h → lostOf τ t p h ≡ true → b ≡ allTo (lostOf τ t p) (m - 1) → b ≡ allTo (lostOf τ t p) m
-  each-known m h b l e k g =
-      g ∙ sym (more m (m - 1) (omega arith) ∙ join (m - 1) (ap (lostOf τ t p) e ∙ k))
+  module _ (m : ℕ) (some : m ≡ 0 → ⊥) where
+    -- the last of these moves loses, so the others decide
+    rest : lostOf τ t p (m - 1) ≡ true → (b : Bool) → b ≡ allTo (lostOf τ t p) (m - 1) → b ≡ allTo (lostOf τ t p) m
+    unfolding allTo
+    rest h b g =
+        let e : m ≡ suc (m - 1) = omega arith in
+        g ∙ sym (ap (allTo (lostOf τ t p)) e ∙ simp (h, and-true))
 
-  pub each-off : (m : ℕ) (a b : Bool) → (m ≡ 0 → ⊥) → a ≡ mayOf p (m - 1) → a ≡ false → b ≡ allTo (lostOf τ t p) (m - 1) → b ≡ allTo (lostOf τ t p) m
-  each-off m a b l q r g =
-      let o : lostOf τ t p (m - 1) ≡ true = simp (sym q ∙ r) in
-      g ∙ sym (more m (m - 1) (omega arith) ∙ join (m - 1) o)
+    -- it is the one that was tried first
+    pub each-known : (h : ℕ) (b : Bool) → m - 1 ≡ h → lostOf τ t p h ≡ true → b ≡ allTo (lostOf τ t p) (m - 1) → b ≡ allTo (lostOf τ t p) m
+    each-known h b e k g = rest (ap (lostOf τ t p) e ∙ k) b g
 
-  pub each-loses : (m : ℕ) (c b : Bool) → (m ≡ 0 → ⊥) → c ≡ lossOf τ t p (m - 1) → c ≡ true → b ≡ allTo (lostOf τ t p) (m - 1) → b ≡ allTo (lostOf τ t p) m
-  each-loses m c b l q r g = g ∙ sym (more m (m - 1) (omega arith) ∙ join (m - 1) (loses (m - 1) c q r))
+    -- it is no move
+    pub each-off : (a b : Bool) → a ≡ mayOf p (m - 1) → a ≡ false → b ≡ allTo (lostOf τ t p) (m - 1) → b ≡ allTo (lostOf τ t p) m
+    each-off a b q r g = rest (simp (sym q ∙ r)) b g
 
-  pub each-keeps : (m : ℕ) (a c : Bool) → (m ≡ 0 → ⊥) → a ≡ mayOf p (m - 1) → a ≡ true → c ≡ lossOf τ t p (m - 1) → c ≡ false → false ≡ allTo (lostOf τ t p) m
-  each-keeps m a c l q r e h =
-      sym (more m (m - 1) (omega arith) ∙ simp (keeps (m - 1) a c q r e h) (by (allTo (lostOf τ t p) (m - 1))))
-    where
-      by : (x : Bool) → (x && false) ≡ false
-      by true = refl
-      by false = refl
+    pub each-loses : (c b : Bool) → c ≡ lossOf τ t p (m - 1) → c ≡ true → b ≡ allTo (lostOf τ t p) (m - 1) → b ≡ allTo (lostOf τ t p) m
+    each-loses c b q r g = rest (loses (m - 1) c q r) b g
 
-  -- the head's move, tried first
-  pub first-loses : (m : ℕ) (b : Bool) → b ≡ lossOf τ t p m → b ≡ true → lostOf τ t p m ≡ true
-  first-loses = loses
+    pub each-keeps : (a c : Bool) → a ≡ mayOf p (m - 1) → a ≡ true → c ≡ lossOf τ t p (m - 1) → c ≡ false → false ≡ allTo (lostOf τ t p) m
+    each-keeps a c q r e h = all-fails (lostOf τ t p) (m - 1) m m _ (omega arith) refl refl (keeps (m - 1) a c q r e h)
 
 pub ruleset each-cases = (each-none, each-known, each-off, each-loses, each-keeps)
 
@@ -186,13 +163,7 @@ module _ (τ : TaskSet) (ticks : ℕ) (p : Board) where
 
     pub round-keeps : (k h : ℕ) (b : Bool) → k ≡ 0 → h ≤ 3 → mayOf p h ≡ true → b ≡ lossOf τ (ticks - 1) p h → b ≡ false → false ≡ roundOf τ ticks k p
     round-keeps k h b e l m g f =
-        sym (decided k e ∙ fails)
-      where
-        fails : allTo (lostOf τ (ticks - 1) p) 4 ≡ false
-        fails = both (allTo (lostOf τ (ticks - 1) p) 4) (λ t. absurd (true≢false (sym (at-all t) ∙ keeps τ (ticks - 1) p h (mayOf p h) b refl m g f))) (λ t. t)
-          where
-            at-all : allTo (lostOf τ (ticks - 1) p) 4 ≡ true → lostOf τ (ticks - 1) p h ≡ true
-            at-all t = Rattle.bounded.specs.All.all-at (lostOf τ (ticks - 1) p) 4 t h (omega arith)
+        all-fails (lostOf τ (ticks - 1) p) h 4 4 _ (omega arith) refl refl (keeps τ (ticks - 1) p h (mayOf p h) b refl m g f) ∙ sym (decided k e)
 
     -- the row below k
     split : (k i : ℕ) → k ≡ i + 1 → roundOf τ ticks k p
@@ -222,7 +193,8 @@ module _ (τ : TaskSet) (ticks : ℕ) (p q : Board) (some : ticks ≡ 0 → ⊥)
 
 pub ruleset round-cases = (round-over, round-each, round-keeps, round-early, round-yes, round-not)
 
--- a waiting job's move is one
+-- ---- the move that is tried first: a job that waits, or none
+
 pub sooner-may : (p : Board) (i : ℕ) → i < 3 → (slotAt p i .left ≡ 0 → ⊥) → mayOf p i ≡ true
 unfolding mayOf
 sooner-may p i l ne = simp (lt-ltb i 3 l) (lt-ltb 0 (slotAt p i .left) (omega arith))

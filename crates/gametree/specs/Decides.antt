@@ -11,7 +11,7 @@ use lib.Seq.{getD-set-same, getD-set-other}
 use borrow.Author.Tests.{le-leb, leb-true, lt-ltb, le-ltb, ltb-true, eq-eqb, ne-eqb, eqb-true, not-false, not-true}
 use Rattle.bounded.specs.Tests.{both, and-true, and-both, or-true}
 use Rattle.bounded.specs.All.{allTo, all-at, all-not}
-use Rattle.edf.specs.Demand.{TaskSet, Lawful}
+use Rattle.edf.specs.Demand.{TaskSet}
 use Rattle.edf.specs.Arrivals.{Tick, to, none}
 use Rattle.gametree.specs.declared.board.Slot.{Slot}
 use Rattle.gametree.specs.declared.board.Board.{Board}
@@ -45,11 +45,15 @@ slot-same p k x i l =
     (λ e. simp (eq-eqb i k e) (rw e (getD-set-same (p .slots) k x _ l)))
     (λ ne. simp (ne-eqb i k ne) (getD-set-other (p .slots) k i x _ ne))
 
-cond-ap : {A B : Type 0} (f : A → B) (b : Bool) (x y : A) → f (cond b x y) ≡ cond b (f x) (f y)
-cond-ap f true x y = refl
-cond-ap f false x y = refl
+-- what f says of the slot of row i, where row k has another one
+slot-says : {B : Type 0} (f : Slot → B) (i k : ℕ) (x s : Slot) {y : B} → (i ≡ k → f x ≡ y) → f (cond (eqb i k) x s) ≡ cond (eqb i k) y (f s)
+slot-says f i k x s h = dite (ℕ-discrete i k) (λ e. simp (eq-eqb i k e) (h e)) (λ ne. simp (ne-eqb i k ne))
 
-module _ (τ : TaskSet) (ok : Lawful τ) (few : τ .rows ≤ 3) where
+neither : (a b : Bool) → (a || b) ≡ false → (a ≡ false) × (b ≡ false)
+neither true b e = absurd (true≢false e)
+neither false b e = (refl, e)
+
+module _ (τ : TaskSet) (few : τ .rows ≤ 3) where
   -- ---- a release
 
   module _ (p : Board) (fr : Framed τ p) (k : ℕ) (row : k < τ .rows) where
@@ -58,18 +62,16 @@ module _ (τ : TaskSet) (ok : Lawful τ) (few : τ .rows ≤ 3) where
     unfolding releasedOf
     release-at i = slot-same p k _ i (omega (arith, fr .size))
 
-    release-state : positionOf (releasedOf τ p k) ≡ released τ (λ i. eqb i k) (positionOf p)
+    release-position : positionOf (releasedOf τ p k) ≡ released τ (λ i. eqb i k) (positionOf p)
     unfolding releasedOf
-    release-state =
+    release-position =
         position-ext _ _ refl (λ i. at (λ (x : Slot). x .next) i (λ e. rw e)) (λ i. at (λ (x : Slot). x .due) i (λ e. rw e))
         (λ i. at (λ (x : Slot). x .left) i (λ e. rw e))
       where
         at : {B : Type 0} (f : Slot → B) {y : B} (i : ℕ)
             → (i ≡ k → f (record { next = p .clock + τ .T k; due = p .clock + τ .D k; left = τ .C k }) ≡ y)
             → f (slotAt (releasedOf τ p k) i) ≡ cond (eqb i k) y (f (slotAt p i))
-        at f i h =
-            ap f (release-at i)
-            ∙ dite (ℕ-discrete i k) (λ e. simp (eq-eqb i k e) (h e)) (λ ne. simp (ne-eqb i k ne))
+        at f i h = ap f (release-at i) ∙ slot-says f i k _ (slotAt p i) h
 
     release-framed : Framed τ (releasedOf τ p k)
     unfolding releasedOf
@@ -90,16 +92,16 @@ module _ (τ : TaskSet) (ok : Lawful τ) (few : τ .rows ≤ 3) where
       position-ext _ _ refl (λ i. sym (or-cond (r i) (eqb i k) _ _)) (λ i. sym (or-cond (r i) (eqb i k) _ _))
       (λ i. sym (or-cond (r i) (eqb i k) _ _))
 
-  -- a set of rows below k that may be released at p, and the position after it
-  record Choice (p q : Board) (k : ℕ) (r : ℕ → Bool) : Type 0 where
+  -- r is a set of rows below k that may be released at p, and q the board after it
+  record Releases (p q : Board) (k : ℕ) (r : ℕ → Bool) : Type 0 where
     below : (i : ℕ) → r i ≡ true → i < k
     legal : (i : ℕ) → r i ≡ true → slotAt p i .next ≤ p .clock
-    state : positionOf q ≡ released τ r (positionOf p)
+    position : positionOf q ≡ released τ r (positionOf p)
     framed : Framed τ q
 
-  -- arrivals have a choice for which f holds
+  -- arrivals have a release after which f holds
   abbrev Found : (Board → Bool) → ℕ → Board → Type 0
-  Found f k p = (r : ℕ → Bool) × (q : Board) × Choice p q k r × (f q ≡ true)
+  Found f k p = (r : ℕ → Bool) × (q : Board) × Releases p q k r × (f q ≡ true)
 
   found-more : (f : Board → Bool) (k : ℕ) (p : Board) → Framed τ p → k < τ .rows → slotAt p k .next ≤ p .clock
       → Found f k (releasedOf τ p k) → Found f (suc k) p
@@ -117,7 +119,7 @@ module _ (τ : TaskSet) (ok : Lawful τ) (few : τ .rows ≤ 3) where
               let s : slotAt (releasedOf τ p k) i ≡ slotAt p i = release-at p fr k row i ∙ simp (ne-eqb i k ne) in
               omega (arith, c .legal i a, ap (λ (x : Slot). x .next) s))
               (λ b. rw (eqb-true i k b) ready) (or-true (r i) (eqb i k) e);
-          state = c .state ∙ ap (released τ r) (release-state p fr k row) ∙ release-more r k (positionOf p);
+          position = c .position ∙ ap (released τ r) (release-position p fr k row) ∙ release-more r k (positionOf p);
           framed = c .framed;
         },
         g .3,
@@ -128,7 +130,7 @@ module _ (τ : TaskSet) (ok : Lawful τ) (few : τ .rows ≤ 3) where
   some-found f zero p fr h e = (
     λ i. false,
     p,
-    record { below = λ i e. absurd (true≢false (sym e)); legal = λ i e. absurd (true≢false (sym e)); state = refl; framed = fr },
+    record { below = λ i e. absurd (true≢false (sym e)); legal = λ i e. absurd (true≢false (sym e)); position = refl; framed = fr },
     e,
   )
   some-found f (suc k) p fr h e =
@@ -139,10 +141,11 @@ module _ (τ : TaskSet) (ok : Lawful τ) (few : τ .rows ≤ 3) where
       (some-found f k (releasedOf τ p k) (release-framed p fr k (omega arith)) (omega arith) (b .1)))
       (λ a.
       let g = some-found f k p fr (omega arith) a in
-      (g .0, g .1, record { below = λ i e. omega (arith, g .2 .below i e); legal = g .2 .legal; state = g .2 .state; framed = g .2 .framed }, g .3))
+      (g .0, g .1, record { below = λ i e. omega (arith, g .2 .below i e); legal = g .2 .legal; position = g .2 .position; framed = g .2 .framed }, g .3))
       (or-true (leb (slotAt p k .next) (p .clock) && someOf τ f k (releasedOf τ p k)) (someOf τ f k p) e)
 
-  -- and for no choice does it hold, where the search finds none
+  -- where the search finds none, f holds after no release
+
   without : (ℕ → Bool) → ℕ → ℕ → Bool
   without r k i = r i && not (eqb i k)
 
@@ -150,12 +153,12 @@ module _ (τ : TaskSet) (ok : Lawful τ) (few : τ .rows ≤ 3) where
   unfolding without
   without-or r k i e =
       dite (ℕ-discrete i k)
-      (λ q. simp (eq-eqb i k q) (by (r i && false) ∙ sym (rw q e)))
+      (λ q. simp (eq-eqb i k q) (either (r i && false) ∙ sym (rw q e)))
       (λ ne. simp (ne-eqb i k ne) (just (r i)))
     where
-      by : (b : Bool) → (b || true) ≡ true
-      by true = refl
-      by false = refl
+      either : (b : Bool) → (b || true) ≡ true
+      either true = refl
+      either false = refl
 
       just : (b : Bool) → (b && true || false) ≡ b
       just true = refl
@@ -170,7 +173,7 @@ module _ (τ : TaskSet) (ok : Lawful τ) (few : τ .rows ≤ 3) where
       → Fails f (without r k) (releasedOf τ p k) → Fails f r p
   fails-more f r k p fr row t g = (
     g .0,
-    g .1 ∙ ap (released τ (without r k)) (release-state p fr k row) ∙ release-more (without r k) k (positionOf p)
+    g .1 ∙ ap (released τ (without r k)) (release-position p fr k row) ∙ release-more (without r k) k (positionOf p)
         ∙ ap (λ (z : ℕ → Bool). released τ z (positionOf p)) (λ j i. without-or r k i t j),
     g .2,
     g .3,
@@ -190,7 +193,7 @@ module _ (τ : TaskSet) (ok : Lawful τ) (few : τ .rows ≤ 3) where
       let ready = le-leb (slotAt p k .next) (p .clock) (legal k t) in
       let a : (someOf τ f k (releasedOf τ p k) || someOf τ f k p) ≡ false = simp ready at e in
       fails-more f r k p fr row t
-      (none-found f k (releasedOf τ p k) (release-framed p fr k row) (omega arith) (first _ _ a) (without r k)
+      (none-found f k (releasedOf τ p k) (release-framed p fr k row) (omega arith) (neither _ _ a .0) (without r k)
       (λ i u.
       let v = and-true (r i) (not (eqb i k)) u in
       let ne : ¬ (i ≡ k) = λ q. true≢false (sym (v .1) ∙ ap not (eq-eqb i k q)) in
@@ -203,16 +206,8 @@ module _ (τ : TaskSet) (ok : Lawful τ) (few : τ .rows ≤ 3) where
       omega (arith, legal i (v .0), ap (λ (x : Slot). x .next) s))))
       (λ t.
       none-found f k p fr (omega arith)
-      (second (leb (slotAt p k .next) (p .clock) && someOf τ f k (releasedOf τ p k)) (someOf τ f k p) e) r
+      (neither (leb (slotAt p k .next) (p .clock) && someOf τ f k (releasedOf τ p k)) (someOf τ f k p) e .1) r
       (λ i u. dite (ℕ-discrete i k) (λ q. absurd (true≢false (sym u ∙ rw q t))) (λ ne. omega (arith, below i u))) legal)
-    where
-      first : (a b : Bool) → (a || b) ≡ false → a ≡ false
-      first true b e = e
-      first false b e = refl
-
-      second : (a b : Bool) → (a || b) ≡ false → b ≡ false
-      second true b e = absurd (true≢false e)
-      second false b e = e
 
   -- ---- a tick
 
@@ -222,8 +217,8 @@ module _ (τ : TaskSet) (ok : Lawful τ) (few : τ .rows ≤ 3) where
     unfolding playedOf
     tick-at k l i = simp (lt-ltb k 3 l) (slot-same p k _ i (omega (arith, fr .size)))
 
-    tick-state : (k : ℕ) → k < 3 → positionOf (playedOf p k) ≡ played (to k) (positionOf p)
-    tick-state k l =
+    tick-position : (k : ℕ) → k < 3 → positionOf (playedOf p k) ≡ played (to k) (positionOf p)
+    tick-position k l =
         position-ext _ _ (clock-is k) (λ i. keep (λ (x : Slot). x .next) i refl) (λ i. keep (λ (x : Slot). x .due) i refl)
         (λ i. at (λ (x : Slot). x .left) i (λ e. rw e))
       where
@@ -233,16 +228,16 @@ module _ (τ : TaskSet) (ok : Lawful τ) (few : τ .rows ≤ 3) where
         at : {B : Type 0} (f : Slot → B) {y : B} (i : ℕ)
             → (i ≡ k → f (record { next = slotAt p k .next; due = slotAt p k .due; left = slotAt p k .left - 1 }) ≡ y)
             → f (slotAt (playedOf p k) i) ≡ cond (eqb i k) y (f (slotAt p i))
-        at f i h = ap f (tick-at k l i) ∙ dite (ℕ-discrete i k) (λ e. simp (eq-eqb i k e) (h e)) (λ ne. simp (ne-eqb i k ne))
+        at f i h = ap f (tick-at k l i) ∙ slot-says f i k _ (slotAt p i) h
 
         keep : {B : Type 0} (f : Slot → B) (i : ℕ)
             → f (record { next = slotAt p k .next; due = slotAt p k .due; left = slotAt p k .left - 1 }) ≡ f (slotAt p k)
             → f (slotAt (playedOf p k) i) ≡ f (slotAt p i)
         keep f i h = ap f (tick-at k l i) ∙ dite (ℕ-discrete i k) (λ e. simp (eq-eqb i k e) (rw e h)) (λ ne. simp (ne-eqb i k ne))
 
-    rest-state : positionOf (playedOf p 3) ≡ played none (positionOf p)
+    idle-position : positionOf (playedOf p 3) ≡ played none (positionOf p)
     unfolding playedOf
-    rest-state = refl
+    idle-position = refl
 
     tick-framed : (m : ℕ) → Framed τ (playedOf p m)
     tick-framed m =
@@ -307,10 +302,10 @@ module _ (τ : TaskSet) (ok : Lawful τ) (few : τ .rows ≤ 3) where
     unfolding mayOf
     all-lost q fr e (to k) may =
         let l : k < 3 = omega (arith, may .0) in
-        subst (λ (s : Position). Missed τ s ⊎ Forces τ t s) (tick-state q fr k l)
+        subst (λ (s : Position). Missed τ s ⊎ Forces τ t s) (tick-position q fr k l)
         (lost-at q fr k (simp (lt-ltb k 3 l) (lt-ltb _ _ (may .1))) (all-at (lost q) 4 e k (omega arith)))
     all-lost q fr e none may =
-        subst (λ (s : Position). Missed τ s ⊎ Forces τ t s) (rest-state q fr) (lost-at q fr 3 refl (all-at (lost q) 4 e 3 (omega arith)))
+        subst (λ (s : Position). Missed τ s ⊎ Forces τ t s) (idle-position q fr) (lost-at q fr 3 refl (all-at (lost q) 4 e 3 (omega arith)))
 
     -- one does not
     kept-at : (q : Board) → Framed τ q → (m : ℕ) → lost q m ≡ false
@@ -322,10 +317,6 @@ module _ (τ : TaskSet) (ok : Lawful τ) (few : τ .rows ≤ 3) where
         let b = neither (missedOf (playedOf q m)) (forcedOf τ t (playedOf q m)) a in
         (may, ⊎-elim (missed-not (playedOf q m) (b .0)) (ih (playedOf q m) (tick-framed q fr m) .fails (b .1))))
         (λ no-move. let a : true ≡ false = simp no-move at e in absurd (true≢false a))
-      where
-        neither : (a b : Bool) → (a || b) ≡ false → (a ≡ false) × (b ≡ false)
-        neither true b e = absurd (true≢false e)
-        neither false b e = (refl, e)
 
     not-lost : (q : Board) → Framed τ q → allTo (lost q) 4 ≡ false → Against (positionOf q) → ⊥
     unfolding mayOf
@@ -337,12 +328,12 @@ module _ (τ : TaskSet) (ok : Lawful τ) (few : τ .rows ≤ 3) where
         (λ l.
         let w : ltb 0 (slotAt q m .left) ≡ true = simp (lt-ltb m 3 l) at (k .0) in
         dite (decLt m (τ .rows))
-        (λ row. k .1 (subst (λ (s : Position). Missed τ s ⊎ Forces τ t s) (sym (tick-state q fr m l)) (against (to m) (row, ltb-true 0 (slotAt q m .left) w))))
+        (λ row. k .1 (subst (λ (s : Position). Missed τ s ⊎ Forces τ t s) (sym (tick-position q fr m l)) (against (to m) (row, ltb-true 0 (slotAt q m .left) w))))
         (λ past. omega (arith, fr .blank m (omega arith), ltb-true 0 (slotAt q m .left) w)))
         (λ l.
         let e₃ : m ≡ 3 = omega (arith, r .1) in
         k .1 (subst (λ (z : ℕ). Missed τ (positionOf (playedOf q z)) ⊎ Forces τ t (positionOf (playedOf q z))) (sym e₃)
-        (subst (λ (s : Position). Missed τ s ⊎ Forces τ t s) (sym (rest-state q fr)) (against none tt))))
+        (subst (λ (s : Position). Missed τ s ⊎ Forces τ t s) (sym (idle-position q fr)) (against none tt))))
 
     abbrev round : Board → Bool
     round q = allTo (lost q) 4
@@ -350,7 +341,7 @@ module _ (τ : TaskSet) (ok : Lawful τ) (few : τ .rows ≤ 3) where
     found-forces : (p : Board) → Found round (τ .rows) p → Forces τ (suc t) (positionOf p)
     found-forces p g =
         let c = g .2 in
-        (g .0, λ i e. (c .below i e, c .legal i e), subst Against (c .state) (all-lost (g .1) (c .framed) (g .3)))
+        (g .0, λ i e. (c .below i e, c .legal i e), subst Against (c .position) (all-lost (g .1) (c .framed) (g .3)))
 
     none-forces : (p : Board) → Framed τ p → someOf τ round (τ .rows) p ≡ false → Forces τ (suc t) (positionOf p) → ⊥
     none-forces p fr e f =

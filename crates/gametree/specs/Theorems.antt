@@ -104,7 +104,7 @@ exact-played l n e =
     let τ = tasksOf l in
     let g = playable-playing l n (playableOf l n) refl e in
     let ok = fit-lawful τ (g .fit) in
-    let d = forced-is τ ok (g .few) n openingOf (opening-framed τ) in
+    let d = forced-is τ (g .few) n openingOf (opening-framed τ) in
     both (forcedOf τ n openingOf)
     (λ t. exact-forced l n (searchOf l n) e (forced-exactly τ ok n) (subst (Forces τ n) opening-is (d .holds t)) (simp (e, t)))
     (λ t. exact-held l n (searchOf l n) e (forced-exactly τ ok n) (λ f. d .fails t (subst (Forces τ n) (sym opening-is) f)) (simp (e, t)))

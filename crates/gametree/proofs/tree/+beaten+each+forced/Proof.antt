@@ -3,7 +3,7 @@
 use Prim.Native.Nat.{ℕ, _+_, _*_, _<_}
 use borrow.Author.Needs.{needs}
 use Rattle.gametree.specs.Bounds.{playing-same, playing-laws}
-use Rattle.gametree.specs.Code.{loss-cases, each-cases, round-cases, first-loses}
+use Rattle.gametree.specs.Code.{loss-cases, each-cases, round-cases, loses}
 use borrow.Fn.Kinds.{In}
 use borrow.Fn.PlainCycle.{Measures, is, falls, and}
 use Rattle.gametree.proofs.tree.beaten.Reads as beaten
@@ -299,7 +299,7 @@ forced-each-requires : (t : ℕ) → forced-lts.Need-each-requires (
   released-reads.Asked,
   released-reads.Learnt,
 ) (forced-at t) forced.Post
-forced-each-requires t c κs = (search needs, (search needs, search needs, search needs, first-loses _ _ _ _ (c .before .beaten .result) (c .before .beaten .ensures) (c .if3 .taken)))
+forced-each-requires t c κs = (search needs, (search needs, search needs, search needs, loses _ _ _ _ (c .before .beaten .result) (c .before .beaten .ensures) (c .if3 .taken)))
 
 forced-returns-2 : (t : ℕ) → forced-lts.Need-returns-2 (
   head-reads.Asked,
