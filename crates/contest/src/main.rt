@@ -6,6 +6,6 @@ fn main() {
     let mut input = [0u8; lesson::INPUT];
     let n = io::read_full(STDIN_FILENO, &mut input);
     let mut out = io::large_buffer();
-    let r = lesson::play(&input[..n], &mut out);
+    let r = lesson::contest(&input[..n], &mut out);
     io::write_all(STDOUT_FILENO, &out[..r]);
 }

@@ -13,7 +13,7 @@ use Rattle.lesson.specs.declared.item.Item.the-variants.{Unreadable}
 use Rattle.lesson.specs.declared.item.Next.{Next}
 use Rattle.lesson.specs.declared.step.Progress.{Progress}
 use Rattle.lesson.specs.Item.{itemOf, itemsOf}
-use Rattle.lesson.specs.Lesson.{inputLimit, noTable, stepOf, closing, answersFrom, outputOf, longest, Played}
+use Rattle.lesson.specs.Lesson.{inputLimit, noTable, stepOf, closing, answersFrom, outputOf, longest, Answered}
 use Rattle.lesson.specs.Read.{Took}
 use Rattle.lesson.specs.Step.{tableOf, Ready, ItemDid, Finished}
 
@@ -107,12 +107,12 @@ pub ruleset reading-laws = (reading-start, reading-less, reading-ready, reading-
 -- ---- the entry point
 
 pub entry-printed : (input text before after : List ℕ) (n r : ℕ) → longest ≤ length before → n ≡ min (length input) inputLimit → text ≡ take n input
-    → Wrote longest (all text) before after 0 r → Played input before after r
+    → Wrote longest (all text) before after 0 r → Answered input before after r
 unfolding outputOf
 entry-printed input text before after n r h e f p =
     printed h (subst (λ (x : List ℕ). Wrote longest (all x) before after 0 r) (f ∙ limit-is inputLimit input n e) p)
 
-pub entry-short : (input before : List ℕ) → length before < longest → Played input before before 0
+pub entry-short : (input before : List ℕ) → length before < longest → Answered input before before 0
 entry-short input before h = filled-short longest longest (outputOf input) before refl h
 
 pub ruleset entry-cases = (entry-short, read-limit, entry-printed)

@@ -109,6 +109,6 @@ outputOf input = answersFrom 1 noTable (itemsOf (take inputLimit input))
 abbrev pub longest : ℕ
 longest = 38270
 
--- the contract of `play`
-abbrev pub Played : List ℕ → List ℕ → List ℕ → ℕ → Type 0
-Played input before after r = Filled longest (outputOf input) before after r
+-- the contract of `contest`
+abbrev pub Answered : List ℕ → List ℕ → List ℕ → ℕ → Type 0
+Answered input before after r = Filled longest (outputOf input) before after r

@@ -3,7 +3,7 @@ ghost use Prim.Native.Nat.{_≤_};
 ghost use lib.ListN.{length};
 ghost use Rattle.decimal.specs.Buffer.{Wrote};
 ghost use Rattle.lesson.specs.Item.{itemsOf};
-ghost use Rattle.lesson.specs.Lesson.{inputLimit, longest, noTable, answersFrom, Played};
+ghost use Rattle.lesson.specs.Lesson.{inputLimit, longest, noTable, answersFrom, Answered};
 use item::next_item;
 use report::least;
 use step::Progress;
@@ -46,8 +46,8 @@ fn print(text: &[u8], out: &mut [u8]) -> usize
 
 // Writes the answers to the first 1,024 bytes of the input to the start of `out`, and gives their length. A buffer shorter than
 // `LONGEST` is left as it is, and the answer is 0.
-pub fn play(input: &[u8], out: &mut [u8]) -> usize
-    ensures { λ r. ⌜ Played (now (input .entry)) (now (out .entry)) (now (out .exit)) r ⌝ }
+pub fn contest(input: &[u8], out: &mut [u8]) -> usize
+    ensures { λ r. ⌜ Answered (now (input .entry)) (now (out .entry)) (now (out .exit)) r ⌝ }
 {
     if out.len() < LONGEST {
         return 0;

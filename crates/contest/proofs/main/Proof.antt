@@ -18,14 +18,14 @@ large-buffer-requires c κs = search needs
 array-share-prefix-input : tie.Need-array-share-prefix-input
 array-share-prefix-input c = search needs
 
-slice-aggregate-play : tie.Need-slice-aggregate-play
-slice-aggregate-play c = search needs
+slice-aggregate-contest : tie.Need-slice-aggregate-contest
+slice-aggregate-contest c = search needs
 
-slice-aggregate-play-2 : tie.Need-slice-aggregate-play-2
-slice-aggregate-play-2 c = search needs
+slice-aggregate-contest-2 : tie.Need-slice-aggregate-contest-2
+slice-aggregate-contest-2 c = search needs
 
-play-requires : tie.Need-play-requires
-play-requires c κs = search needs
+contest-requires : tie.Need-contest-requires
+contest-requires c κs = search needs
 
 array-share-prefix-out : tie.Need-array-share-prefix-out
 array-share-prefix-out c = search (needs, filled-within)
@@ -47,9 +47,9 @@ main-spec =
     read-full-requires
     large-buffer-requires
     array-share-prefix-input
-    slice-aggregate-play
-    slice-aggregate-play-2
-    play-requires
+    slice-aggregate-contest
+    slice-aggregate-contest-2
+    contest-requires
     array-share-prefix-out
     slice-aggregate-write-all
     write-all-requires

@@ -1,11 +1,11 @@
--- `lesson::play` meets its contract. Assumes nothing.
+-- `lesson::contest` meets its contract. Assumes nothing.
 use native.Mathlib.Omega.{arith}
 use lib.Seq.{length-take-le}
 use mathlib.Core.Path.{sym}
 use Rattle.lesson.specs.Entry.{entry-cases}
 use borrow.Author.Needs.{needs}
-use Rattle.lesson.proofs.play.Statement.{statement}
-use Rattle.lesson.proofs.play.Tie as tie
+use Rattle.lesson.proofs.contest.Statement.{statement}
+use Rattle.lesson.proofs.contest.Tie as tie
 
 returns : tie.Need-returns
 returns c = search (needs, entry-cases)
@@ -25,7 +25,7 @@ same-length c = search needs
 returns-2 : tie.Need-returns-2
 returns-2 c = search (needs, entry-cases)
 
-pub play-spec : {M : Type 1} → statement M
-play-spec =
+pub contest-spec : {M : Type 1} → statement M
+contest-spec =
     tie.close
     (tie.spec returns least-requires slice-aggregate-print print-requires same-length returns-2)
