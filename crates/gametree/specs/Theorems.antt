@@ -11,13 +11,15 @@ use Rattle.game.specs.Game.{opening, Forces}
 use Rattle.game.specs.Statement.{ExactlyWhen}
 use Rattle.game.specs.Theorems.{forced-exactly}
 use Rattle.table.specs.Rows.{tasksOf, fit-lawful}
+use Rattle.table.specs.Verdict.{opinionOf}
+use Rattle.table.specs.Theorems.{admitted-fits, first-overload}
 use Rattle.gametree.specs.declared.board.Slot.{Slot}
 use Rattle.gametree.specs.declared.Finding.{Finding}
 use Rattle.gametree.specs.declared.Finding.the-variants.{Forced, Held, Refused}
 use Rattle.gametree.specs.Bounds.{Playing}
 use Rattle.gametree.specs.Search.{forcedOf}
 use Rattle.gametree.specs.Entry.{playableOf, openingOf, searchOf, playable-playing}
-use Rattle.gametree.specs.Statement.{Says, Means, SearchExact}
+use Rattle.gametree.specs.Statement.{Says, Means, SearchExact, AdmittedHeld, RefusedForced}
 use Rattle.gametree.specs.Decides.{positionOf, Framed, position-ext, forced-is}
 
 -- ---- the board before the first tick
@@ -112,6 +114,15 @@ exact-played l n e =
 pub search-exact : SearchExact
 unfolding searchOf
 search-exact l n = both (playableOf l n) (λ e. exact-played l n e) (λ e. exact-refused l n (searchOf l n) e (simp e))
+
+pub admitted-held : AdmittedHeld
+admitted-held l n e z =
+    let ok = fit-lawful (tasksOf l) (playable-playing l n (playableOf l n) refl e .fit) in
+    search-exact l n .0 .held e
+    (λ f. let x = forced-exactly (tasksOf l) ok n .exceeds f in omega (arith, x .2, admitted-fits l z (x .0)))
+
+pub refused-forced : RefusedForced
+refused-forced l n e z h = search-exact l n .1 .exceeded e (opinionOf l .first, h, first-overload l z .0)
 
 -- for the code
 pub answer-is : (l : List ℕ) (n : ℕ) (r : Finding) → r ≡ searchOf l n → (r ≡ searchOf l n) × Says l n r
