@@ -1,7 +1,7 @@
 -- Where the demand exceeds t, the line of releases to t wins whatever is played. Assumes nothing.
 use Prim.Native.Nat.{ℕ, zero, suc, _+_, _-_, _*_, _/_, _%_, _≤_, _<_}
 use mathlib.Core.Path.{_≡_, refl, sym, ap, _∙_}
-use mathlib.Core.Bool.{true, false, true≢false}
+use mathlib.Core.Bool.{Bool, true, false, true≢false}
 use mathlib.Core.Logic.{dite, _⊎_, inl, inr, ⊎-elim}
 use native.Mathlib.Nat.{mul-le-mul-right, mul-add-mod-self-right, div-add-mod', zero-mod}
 use native.Mathlib.Omega.{arith}
@@ -14,12 +14,12 @@ use Rattle.edf.specs.Jobs.{jobsBy, jobs-none}
 use Rattle.edf.specs.Demand.{TaskSet, Lawful, rowDemand, demand}
 use Rattle.edf.specs.State.{soonest, pending, toCome, rowLoad, load, WellFormed, pending-idle, pending-later}
 use Rattle.edf.specs.Arrivals.{Tick, to, none}
-use Rattle.game.specs.Game.{Position, opening, Legal, released, MayPlay, played, Missed, Forces, Line, Wins, lineTo}
+use Rattle.game.specs.Game.{Position, opening, Legal, released, MayPlay, played, Missed, Forces, Wins, lineTo}
 use Rattle.game.specs.Statement.{LineWins}
 use Rattle.game.specs.Tick.{stateOf, is-waits, released-load, released-formed, tick-clock, Past, tick-most, tick-formed, opening-load, opening-formed}
 
 -- a line that wins whatever is played is a way to force it
-pub wins-forces : (τ : TaskSet) (l : Line) (n : ℕ) (p : Position) → Wins τ l n p → Forces τ n p
+pub wins-forces : (τ : TaskSet) (l : ℕ → ℕ → Bool) (n : ℕ) (p : Position) → Wins τ l n p → Forces τ n p
 wins-forces τ l zero p w = w
 wins-forces τ l (suc n) p w = (
   l (p .clock),

@@ -58,15 +58,11 @@ Forces τ (suc n) p =
     (r : ℕ → Bool) × Legal τ r p
     × ((m : Tick) → MayPlay τ (released τ r p) m → Missed τ (played m (released τ r p)) ⊎ Forces τ n (played m (released τ r p)))
 
--- ---- a line of releases, fixed beforehand
-
--- which rows have a release at which tick
-abbrev pub Line : Type 0
-Line = ℕ → ℕ → Bool
+-- ---- a line of releases, fixed beforehand: at which tick which rows have one
 
 -- IT WINS within n ticks WHATEVER IS PLAYED: what it releases is legal, and against every play a job is unfinished at its
 -- deadline after the tick, or it wins within the n - 1 ticks from there on
-abbrev pub Wins : TaskSet → Line → ℕ → Position → Type 0
+abbrev pub Wins : TaskSet → (ℕ → ℕ → Bool) → ℕ → Position → Type 0
 Wins τ l zero p = ⊥
 Wins τ l (suc n) p =
     Legal τ (l (p .clock)) p
@@ -74,7 +70,7 @@ Wins τ l (suc n) p =
     → Missed τ (played m (released τ (l (p .clock)) p)) ⊎ Wins τ l n (played m (released τ (l (p .clock)) p)))
 
 -- the jobs that the demand at t counts: of each row those at 0, T, 2 T, .., as long as they are due by t
-unfoldable pub lineTo : TaskSet → ℕ → Line
+unfoldable pub lineTo : TaskSet → ℕ → ℕ → ℕ → Bool
 lineTo τ t c i = ltb i (τ .rows) && (eqb (c % τ .T i) 0 && leb (c + τ .D i) t)
 
 -- ---- the demand

@@ -1,5 +1,4 @@
-// Arrivals and the scheduler alternate; ticks left and rows still to decide fall (docs/SPECIFICATION.md §13.2). Internal: `search` has
-// tested the table and the ticks.
+// Arrivals and the scheduler alternate; ticks left and rows still to decide fall (docs/SPECIFICATION.md §13.2).
 ghost use mathlib.Core.Path.{_≡_};
 ghost use mathlib.Core.Bool.{true};
 ghost use Prim.Native.Nat.{_-_, _≤_};
@@ -16,7 +15,7 @@ use crate::board::released;
 use table::rows::count;
 
 // Whether arrivals can force it, where the rows below `rows` are still to decide: each is released first, and then not, which is
-// only tried where the first does not win.
+// only tried where the first does not win. Internal: `search` has tested the table and the ticks.
 pub fn forced(words: &[u32], b: Board, ticks: u64, rows: usize) -> bool
     requires { ⌜ Playing (tasksOf (now words)) (b .clock) ticks × (rows ≤ tasksOf (now words) .rows) ⌝ }
     ensures { λ r. ⌜ r ≡ roundOf (tasksOf (now (words .entry))) ticks rows b ⌝ }

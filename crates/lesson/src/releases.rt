@@ -1,4 +1,4 @@
-// The answer to a question, and the line of releases that wins (docs/SPECIFICATION.md §13.4). Internal: `step` has seen to the room.
+// The answer to a question, and the line of releases that wins (docs/SPECIFICATION.md §13.4).
 ghost use mathlib.Core.Path.{_≡_};
 ghost use Prim.Native.Nat.{_+_, _≤_, _<_};
 ghost use lib.ListN.{length};
@@ -74,7 +74,7 @@ fn put_releases(words: &[u32], t: u64, out: &mut [u8], at: usize) -> usize
     e
 }
 
-// The answer of the search on these rows, within n ticks.
+// The answer of the search on these rows, within n ticks. Internal: `step` has seen to the room.
 pub fn put_answer(words: &[u32], n: u64, out: &mut [u8], at: usize) -> usize
     requires { ⌜ at + 3182 ≤ length (now out) ⌝ }
     ensures { λ r. ⌜ Wrote 3182 (answerText (now (words .entry)) n) (now (out .entry)) (now (out .exit)) at r ⌝ }
