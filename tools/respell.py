@@ -46,6 +46,9 @@ def own_names(texts):
             m = DEFINES.match(line)
             if m and m.group(1)[0].islower():
                 found.add(m.group(1))
+            m = re.match(r"(?:pub )?ruleset (?:pub )?(\S+)", line)
+            if m:
+                found.add(m.group(1))
             if line.startswith("use Rattle."):
                 found |= {w for w in re.findall(r" as ([a-z]\w*)", line) if CAMEL.match(w)}
     return found

@@ -39,7 +39,7 @@ pub known_not : (s : Session) (c : Check) (v : List ℕ) → Checks s c → c.so
     → Known s (record { sound = false; brittle = c.brittle; inverses = v })
 known_not s c v h f = record { found = sym f ∙ h.sound; marks = λ t. absurd (false≢true t); inverses = λ t. absurd (false≢true t) }
 
-pub ruleset known-laws = (known_sound, known_not)
+pub ruleset known_laws = (known_sound, known_not)
 
 -- its row arrives
 module _ (s : Session) (g : Shared) (row : ℕ) (o : Outcome) (k : Known s g) (jobs : length s.jobs ≡ 16) (words : length s.words ≡ 48) where

@@ -1,4 +1,6 @@
 // Jobs of several rows arrive on one tick, in one call (docs/SPECIFICATION.md §5.9).
+#![tactic(auto)]
+
 ghost use Rattle.std.specs.Prelude.{◌≡◌};
 ghost use Rattle.session.specs.Calls.{shown, arrive_of};
 ghost use Rattle.session.specs.Batch.{answered, after_all, answered_all};

@@ -23,7 +23,7 @@ module _ (f : ℕ → ℕ) (k j : ℕ) where
   pub besides_other : (b r : ℕ) → ¬ (j ≡ k) → Within b (f j) r → Within b (besides f k j) r
   besides_other b r ne = gate_some b (f j) r (eqb j k) (ne_eqb j k ne)
 
-pub ruleset besides-cases = (besides_own, besides_other)
+pub ruleset besides_cases = (besides_own, besides_other)
 
 -- the sum of all is that of the others and the one
 pub sum_besides : (f : ℕ → ℕ) (n k : ℕ) → k < n → sum_to f n ≡ sum_to (besides f k) n + f k

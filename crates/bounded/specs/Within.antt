@@ -24,4 +24,4 @@ gate_none b x m e = record { is = sym (gate_off (not m) x (ap not e)); small = o
 pub gate_some : (b x r : ℕ) (m : Bool) → m ≡ false → Within b x r → Within b (gate (not m) x) r
 gate_some b x r m e w = record { is = w.is ∙ sym (gate_on (not m) x (ap not e)); small = w.small }
 
-pub ruleset gate-cases = (gate_none, gate_some)
+pub ruleset gate_cases = (gate_none, gate_some)

@@ -1,4 +1,6 @@
 // Sums, searches and quotients over an index, and their laws, stand in specs/.
+#![tactic(auto)]
+
 ghost use Rattle.std.specs.Prelude.{◌≡◌, ◌-◌};
 ghost use Rattle.bounded.specs.Tests.{gate};
 ghost use Rattle.bounded.specs.Within.{Within};

@@ -93,7 +93,7 @@ module _ (j : Job) (d : ℕ) where
   unfolding pending_by
   pending_most = gate_le _ j.left
 
-pub ruleset pending-cases = (pending_later, pending_due)
+pub ruleset pending_cases = (pending_later, pending_due)
 
 -- the work of the row k, with its job j, that can still have to be done by x ticks after the clock
 unfoldable pub load_by : Prepared → Job → ℕ → ℕ → ℕ
@@ -109,7 +109,7 @@ load_is k j clock x g t p w few e a b h =
 pub load_fits : (j : Job) (d p w : ℕ) → j.left ≤ 1000000 → p ≡ pending_by j d → w ≤ 1000000000000 → Fits w64 (p + w)
 load_fits j d p w few e h = record { fits = omega (arith, e, pending_most j d) }
 
-pub ruleset load-cases = (load_is, load_fits)
+pub ruleset load_cases = (load_is, load_fits)
 
 -- and that is the theory's
 pending_row : (s : Session) (d i : ℕ) → pending_by (job_at s i) d ≡ pending (state_of s) d i
@@ -142,7 +142,7 @@ module _ (m : Bool) (n : ℕ) where
   unfolding looked_at_lem
   looked_all e = record { is = sym (simp e); small = omega arith }
 
-pub ruleset looked-cases = (looked_none, looked_all)
+pub ruleset looked_cases = (looked_none, looked_all)
 
 -- the budget of a new job of the row k, which is brittle or not, where the other rows ask for so much
 unfoldable pub budget_by : Task → Bool → ℕ → ℕ
@@ -157,7 +157,7 @@ module _ (k : Task) (m : Bool) (asked : ℕ) where
   unfolding budget_by
   budget_left x e h = h ∙ sym (simp e)
 
-pub ruleset budget-cases = (budget_none, budget_left)
+pub ruleset budget_cases = (budget_none, budget_left)
 
 -- the job that arrives
 abbrev pub arriving_by : Task → ℕ → Bool → ℕ → Job
@@ -187,7 +187,7 @@ pub marked_value : (s : Session) (row : ℕ) (v w : ℤ) (b : Bool) → v ≡ bu
 unfolding brittle
 marked_value s row v w b e r h = record { is = λ l. h ∙ ap negative (r ∙ e) }
 
-pub ruleset marked-cases = (marked_none, marked_value)
+pub ruleset marked_cases = (marked_none, marked_value)
 
 -- in a loose and in a tight session all rows are alike
 pub mark_alike : (s : Session) (row : ℕ) → sound s ≡ true → length s.words ≡ 48 → (s.kind ≡ 3 → ⊥) → MarkOf s (replicate 16 (eqb s.kind 2)) row
@@ -304,9 +304,9 @@ module _ {s : Session} {i : ℕ} {l : List ℕ} {m : List Bool} {t : Task} {cloc
         ap (λ (k : Job). record { answer = Arrived i k.due; used = 0; session = changed s s.clock (set s.jobs i k) 0 0 }) (g ∙ job_is h e)
         ∙ sym (simp (lt-leb s.count i a.known, le-ltb s.clock (job_at s i).next a.ready))
 
-pub ruleset asked-laws = (asked_place, asked_fits)
+pub ruleset asked_laws = (asked_place, asked_fits)
 
-pub ruleset arrive-cases = (arrive_unknown, arrive_early)
+pub ruleset arrive_cases = (arrive_unknown, arrive_early)
 
 -- ---- finish
 
@@ -323,7 +323,7 @@ module _ (s : Session) where
   unfolding finish_in
   finish_done o h c e = e ∙ sym (simp (ne_eqb s.span 0 h, ne_eqb s.chosen idle c))
 
-pub ruleset finish-cases = (finish_none, finish_idle, finish_done)
+pub ruleset finish_cases = (finish_none, finish_idle, finish_done)
 
 -- whether j, whose row is brittle or not, gains what a job that is due at `due` leaves unused
 unfoldable pub gains_by : Job → ℕ → Bool → Bool
@@ -342,7 +342,7 @@ module _ (j : Job) (due : ℕ) (m : Bool) where
   unfolding gains_by
   gains_later e h = simp (e, lt-ltb 0 j.left (omega arith))
 
-pub ruleset gains-cases = (gains_brittle, gains_none, gains_later)
+pub ruleset gains_cases = (gains_brittle, gains_none, gains_later)
 
 module _ (b n most : ℕ) where
   pub capped_all : most < n → most ≡ min (b + n) most
@@ -354,7 +354,7 @@ module _ (b n most : ℕ) where
   pub capped_sum : n ≤ most → b ≤ most - n → b + n ≡ min (b + n) most
   capped_sum h k = omega arith
 
-pub ruleset capped-cases = (capped_all, capped_most, capped_sum)
+pub ruleset capped_cases = (capped_all, capped_most, capped_sum)
 
 -- row i's job j after c, which is due at `due`, is over with n unused ticks
 unfoldable pub given_by : TaskSet → ℕ → Job → ℕ → ℕ → ℕ → Bool → Job
@@ -376,7 +376,7 @@ module _ (τ : TaskSet) (i : ℕ) (j : Job) (c due n : ℕ) (m : Bool) where
   unfolding given_by
   given_same b ne e f = sym (simp (ne_eqb i c ne, sym e ∙ f))
 
-pub ruleset given-cases = (given_over, given_more, given_same)
+pub ruleset given_cases = (given_over, given_more, given_same)
 
 -- a finish that nothing refuses
 pub record Ending (s : Session) : Type 0 where
@@ -421,7 +421,7 @@ module _ (c : ℕ) where
   unfolding place_of
   place_first l = record { is = simp (le-ltb c 16 l); small = lit≤ tt }
 
-pub ruleset place-cases = (place_chosen, place_first)
+pub ruleset place_cases = (place_chosen, place_first)
 
 -- row i's job j after n ticks of c
 unfoldable pub aged_by : Job → ℕ → ℕ → ℕ → ℕ → Job
@@ -448,7 +448,7 @@ module _ (j : Job) (i c due n : ℕ) where
   unfolding aged_by
   aged_keeps b e f t = simp (ne_eqb i c e, sym f ∙ t)
 
-pub ruleset aged-cases = (aged_over, aged_runs, aged_loses, aged_keeps)
+pub ruleset aged_cases = (aged_over, aged_runs, aged_loses, aged_keeps)
 
 aged_row : (s : Session) (due n i : ℕ) → DueOf s s.chosen due → aged_by (job_at s i) i s.chosen due n ≡ aged_job s n i
 unfolding aged_by aged_job
@@ -481,7 +481,7 @@ module _ (c left n : ℕ) where
   unfolding over_by
   over_not e f = simp (ne_eqb c idle e, ne_eqb left n f)
 
-pub ruleset over-cases = (over_idle, over_yes, over_not)
+pub ruleset over_cases = (over_idle, over_yes, over_not)
 
 over_is : (s : Session) (n at : ℕ) → ChoiceBounds s → at ≡ place_of s.chosen → over_by s.chosen (job_at s at).left n ≡ over_after s n
 unfolding over_by over_after
@@ -502,7 +502,7 @@ module _ (c left : ℕ) where
   unfolding kept_by
   kept_same e = simp (ne_eqb left 0 e)
 
-pub ruleset kept-cases = (kept_none, kept_same)
+pub ruleset kept_cases = (kept_none, kept_same)
 
 kept_is : (c span n : ℕ) → n ≤ span → kept_by c (span - n) ≡ cond (eqb span n) 0 c
 unfolding kept_by
@@ -549,7 +549,7 @@ module _ (s : Session) (n : ℕ) where
         advance_done o d e =
             e ∙ sym (simp (ne_eqb s.span 0 a, ne_eqb n 0 b, le-ltb s.span n c, le-ltb clock_end (s.clock + n) d))
 
-pub ruleset advance-cases = (advance_none, advance_zero, advance_long, advance_end, advance_done)
+pub ruleset advance_cases = (advance_none, advance_zero, advance_long, advance_end, advance_done)
 
 -- a step that is not refused
 pub step_ready : (s : Session) (n : ℕ) → sound s ≡ true → (s.span ≡ 0 → ⊥) → n ≤ s.span → s.clock + n ≤ clock_end → Step s n

@@ -1,4 +1,6 @@
 // The calls besides choose: a job arrives, the clock rises, the chosen job is over early (docs/SPECIFICATION.md §5.3, §5.5, §5.6).
+#![tactic(auto)]
+
 ghost use Rattle.std.specs.Prelude.{◌≡◌};
 ghost use Rattle.session.specs.Calls.{over_job_lem};
 

@@ -67,7 +67,7 @@ pub watch_other : (kind : ℕ) (m : List Bool) → (kind ≡ 3 → ⊥) → reco
 unfolding watch_by
 watch_other kind m ne = sym (simp (ne_eqb kind 3 ne))
 
-pub ruleset watch-cases = (watch_mixed, watch_other)
+pub ruleset watch_cases = (watch_mixed, watch_other)
 
 pub record Watches (s : Session) (w : Watch) : Type 0 where
   pub rows : (i : ℕ) → i < s.count → get_or w.rows i false ≡ watched s i
@@ -105,7 +105,7 @@ module _ (m : ℕ) (b : Bool) (next clock d : ℕ) where
   unfolding nearer_by
   nearer_other f = sym (simp f)
 
-pub ruleset nearer-cases = (nearer_brittle, nearer_other)
+pub ruleset nearer_cases = (nearer_brittle, nearer_other)
 
 -- the numbers of one row are small enough to be added
 pub turn_small : (s : Session) (i : ℕ) → sound s ≡ true → length s.words ≡ 48 → i < s.count
@@ -210,4 +210,4 @@ module _ (s : Session) (e : sound s ≡ true) where
       rw is
       (dite (ℕ_discrete s.kind 3) (λ k. nearest_mixed k) (λ ne. rw (ticks_other s ne s.count) (nearest_other places ne)))
 
-pub ruleset nearest-laws = (ticks_start, ticks_next, ticks_small)
+pub ruleset nearest_laws = (ticks_start, ticks_next, ticks_small)

@@ -1,4 +1,6 @@
 // Plays arrivals against the scheduler on the table and questions on standard input (docs/SPECIFICATION.md §13.4).
+#![tactic(auto)]
+
 use libc::{STDIN_FILENO, STDOUT_FILENO};
 
 fn main() {

@@ -46,4 +46,4 @@ module _ (f : ℕ → List ℕ) (m n : ℕ) (d : List ℕ) (at : ℕ) where
     pub joined_all : n ≤ i → Wrote (m * n) (join_to f n) d e at p
     joined_all h = let all : i ≡ n = omega (arith, x.within) in rw all at x.text
 
-pub ruleset joined-laws = (joined_room, joined_next)
+pub ruleset joined_laws = (joined_room, joined_next)

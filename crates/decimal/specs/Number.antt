@@ -44,7 +44,7 @@ pub plain_many : (l : List ℕ) → (length l ≡ 0 → ⊥) → (length l ≡ 1
 unfolding plain
 plain_many l h k = simp (ne_eqb _ _ h, ne_eqb _ _ k, or-false)
 
-pub ruleset plain-cases = (plain_none, plain_one, plain_many)
+pub ruleset plain_cases = (plain_none, plain_one, plain_many)
 
 -- ---- `read_digits`
 
@@ -105,7 +105,7 @@ read_done l v i r h =
     let d : all_digits l ≡ true = r.digits ∙ ap all_digits none in
     simp (d, e, le-leb _ _ r.small)
 
-pub ruleset read-cases = (read_start, read_low, read_high, read_great, read_next, read_done)
+pub ruleset read_cases = (read_start, read_low, read_high, read_great, read_next, read_done)
 
 -- ---- `read_number`
 
@@ -117,4 +117,4 @@ pub number_not : (l : List ℕ) (b : Bool) → b ≡ plain l → b ≡ false →
 unfolding number_of
 number_not l b e f = simp (sym e ∙ f)
 
-pub ruleset number-cases = (number_plain, number_not)
+pub ruleset number_cases = (number_plain, number_not)

@@ -27,7 +27,7 @@ module _ (n rest k : ℕ) (c : Counting n rest k) where
   pub counting_done : rest < 10 → k ≡ length (decimal n)
   counting_done h = omega (arith, c.count, ap length (decimal_small rest h))
 
-pub ruleset counting-laws = (counting_start, counting_room, counting_next, counting_done)
+pub ruleset counting_laws = (counting_start, counting_room, counting_next, counting_done)
 
 -- ---- `put_digits`
 
@@ -105,7 +105,7 @@ module _ (n : ℕ) (d : List ℕ) (at : ℕ) where
           short = omega arith;
         }
 
-pub ruleset filling-laws = (filling_start, filling_some, filling_room, filling_next, filling_first, filling_done)
+pub ruleset filling_laws = (filling_start, filling_some, filling_room, filling_next, filling_first, filling_done)
 
 -- ---- `put_number`
 
@@ -124,4 +124,4 @@ number_ended n last at p q d e f b r v w =
     wrote_within _ 21 (decimal n ++ last ∷ []) d f at q (omega arith)
     (wrote_more _ 1 (decimal n) (last ∷ []) d e f at p q (omega arith) v w)
 
-pub ruleset written-cases = (room_number, room_end, number_ended)
+pub ruleset written_cases = (room_number, room_end, number_ended)

@@ -131,7 +131,7 @@ module _ (text first : List ℕ) (p : Progress) (w out : List ℕ) (at : ℕ) (n
       owing_last _ _ _ _ _ _ now.owing _ (1564 + 11 * length text) (last_text (draft_of w p)) after r rest f.wrote
       (omega (arith, now.owing.total, ap length rest, f.short, now.last, place))
 
-pub ruleset reading-laws = (reading_start, reading_less, reading_ready, reading_next, reading_end)
+pub ruleset reading_laws = (reading_start, reading_less, reading_ready, reading_next, reading_end)
 
 -- ---- the entry point
 
@@ -141,4 +141,4 @@ unfolding output_of
 entry_printed input text before after k n r d h e f p =
     filled_printed input_limit input n e 1564 11 k r all text before after d h f p
 
-pub ruleset entry-cases = (filled_short, read_limit, room_kept, entry_printed)
+pub ruleset entry_cases = (filled_short, read_limit, room_kept, entry_printed)

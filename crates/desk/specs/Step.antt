@@ -122,7 +122,7 @@ module _ (p : Progress) (w before : List ℕ) (ready : Ready p before) (places :
           short = opinion_short (take (3 * p.count) w) p.count rows_length ready.few before after p.end r y;
         }
 
-pub ruleset answer-cases = (answer_none, answer_rows, answer_is)
+pub ruleset answer_cases = (answer_none, answer_rows, answer_is)
 
 -- ---- `close`
 
@@ -177,7 +177,7 @@ module _ (c t d : ℕ) (p : Progress) (w before : List ℕ) (ready : Ready p bef
         size = omega arith;
       }
 
-pub ruleset add-cases = (add_full, add_row)
+pub ruleset add_cases = (add_full, add_row)
 
 -- ---- `step`
 
@@ -209,7 +209,7 @@ module _ (x : Line) (p r : Progress) (w before after : List ℕ) where
   pub step_row : (v : List ℕ) (c t d : ℕ) → x ≡ Row c t d → LineDid (Row c t d) p r w v before after → LineDid x p r w v before after
   step_row v c t d e u = rw e u
 
-pub ruleset step-cases = (step_word, step_call, step_unreadable, step_empty, step_row)
+pub ruleset step_cases = (step_word, step_call, step_unreadable, step_empty, step_row)
 
 -- ---- `finish`
 
@@ -232,4 +232,4 @@ module _ (p : Progress) (w before : List ℕ) (ready : Ready p before) (places :
   finish_rows r after n u =
       closes (simp (lt-ltb 0 (length (take (3 * p.count) w)) (omega (arith, rows_length p w before ready places)), or-true)) r after u
 
-pub ruleset finish-cases = (finish_none, finish_spoiled, finish_rows)
+pub ruleset finish_cases = (finish_none, finish_spoiled, finish_rows)

@@ -1,4 +1,6 @@
 // The opinions on many tables, as one function from bytes to bytes (docs/SPECIFICATION.md §8.6).
+#![tactic(auto)]
+
 ghost use Rattle.std.specs.Prelude.{◌≡◌, ◌+◌, ◌*◌, ◌≤◌, length};
 ghost use Rattle.decimal.specs.Buffer.{Wrote};
 ghost use Rattle.lines.specs.Lines.{lines_of};

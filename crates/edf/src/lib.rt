@@ -1,1 +1,2 @@
 // No code: the scheduling theory stands in specs/.
+#![tactic(auto)]

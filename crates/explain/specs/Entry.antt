@@ -106,10 +106,10 @@ module _ (s : Session) (l : List ℕ) where
       unfolding buffer_of
       left_unsound f = sym (simp (sym k.sound ∙ f))
 
-pub ruleset explain-cases = (explain_running, explain_chosen, explain_sound, explain_unsound)
+pub ruleset explain_cases = (explain_running, explain_chosen, explain_sound, explain_unsound)
 
-pub ruleset text-laws = (account_few, text_put)
+pub ruleset text_laws = (account_few, text_put)
 
-pub ruleset tell-cases = (said_text, left_text, said_running, left_running, said_short, left_short)
+pub ruleset tell_cases = (said_text, left_text, said_running, left_running, said_short, left_short)
 
-pub ruleset told-cases = (said_sound, left_sound, said_unsound, left_unsound)
+pub ruleset told_cases = (said_sound, left_sound, said_unsound, left_unsound)

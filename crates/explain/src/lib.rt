@@ -1,5 +1,7 @@
 // A choice explained (docs/SPECIFICATION.md §11): what choose answers on the same session and words, and what led to it. No session
 // changes, and no word is used up.
+#![tactic(auto)]
+
 ghost use Rattle.std.specs.Prelude.{◌≡◌, true, ◌+◌, ◌≤◌, length};
 ghost use Rattle.decimal.specs.Buffer.{Wrote};
 ghost use Rattle.session.specs.Sound.{sound};

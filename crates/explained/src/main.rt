@@ -1,4 +1,6 @@
 // Answers the table and the calls on standard input as `shuffle` does, and explains each choice (docs/EXPLANATIONS.md).
+#![tactic(auto)]
+
 ghost use Rattle.std.specs.Prelude.{◌≡◌, ◌≤◌, length};
 ghost use Rattle.transcript.specs.Transcript.{input_limit};
 

@@ -21,7 +21,7 @@ playing_now τ clock ticks p = record { fit = p.fit; few = p.few; short = omega 
 pub playing_same : (τ : TaskSet) (clock next ticks : ℕ) → Playing τ clock ticks → next ≡ clock → Playing τ next ticks
 playing_same τ clock next ticks p e = record { fit = p.fit; few = p.few; short = omega (arith, p.short) }
 
-pub ruleset playing-laws = (playing_next, playing_now, playing_same)
+pub ruleset playing_laws = (playing_next, playing_now, playing_same)
 
 -- the entry's tests
 pub playing_start : (l : List ℕ) (n : ℕ) → (length l ≡ 0 → ⊥) → length l ≤ 9 → length l % 3 ≡ 0 → n ≤ 12

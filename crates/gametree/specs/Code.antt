@@ -32,7 +32,7 @@ late_none j clock e = simp (le-ltb 0 j.left (omega arith))
 pub late_some : (j : Slot) (clock : ℕ) → (j.left ≡ 0 → ⊥) → leb j.due clock ≡ late_by j clock
 late_some j clock ne = simp (lt-ltb 0 j.left (omega arith))
 
-pub ruleset late-cases = (late_none, late_some)
+pub ruleset late_cases = (late_none, late_some)
 
 -- a release
 pub released_is : (τ : TaskSet) (p : Board) (i : ℕ) (k : Task) → FitRow τ i k
@@ -50,7 +50,7 @@ pub played_none : (p : Board) (m : ℕ) → 3 ≤ m → record { clock = p.clock
 unfolding played_of
 played_none p m l = sym (simp (le-ltb m 3 l))
 
-pub ruleset played-cases = (played_row, played_none)
+pub ruleset played_cases = (played_row, played_none)
 
 pub may_row : (p : Board) (m : ℕ) → m < 3 → ltb 0 (slot_at p m).left ≡ may_of p m
 unfolding may_of
@@ -60,7 +60,7 @@ pub may_none : (p : Board) (m : ℕ) → 3 ≤ m → true ≡ may_of p m
 unfolding may_of
 may_none p m l = sym (simp (le-ltb m 3 l))
 
-pub ruleset may-cases = (may_row, may_none)
+pub ruleset may_cases = (may_row, may_none)
 
 -- ---- a job unfinished at its deadline, slot by slot
 
@@ -82,7 +82,7 @@ module _ (p : Board) (a : Bool) (ea : a ≡ lates p 0) where
     pub missed_third : (c : Bool) → b ≡ false → c ≡ lates p 2 → c ≡ missed_of p
     missed_third c nb ec = ec ∙ sym (missed_three p ∙ simp (sym ea ∙ na, sym eb ∙ nb) (not-not (lates p 2)))
 
-pub ruleset missed-cases = (missed_first, missed_second, missed_third)
+pub ruleset missed_cases = (missed_first, missed_second, missed_third)
 
 -- ---- each move
 
@@ -98,7 +98,7 @@ pub loss_forced : (τ : TaskSet) (t : ℕ) (p q : Board) (m n : ℕ) (b c : Bool
 loss_forced τ t p q m n b c e f h k g =
     g ∙ ap (λ (z : ℕ). round_of τ t z q) k ∙ sym (forced_round τ t q) ∙ ap (forced_of τ t) e ∙ sym (simp (ap missed_of (sym e) ∙ sym f ∙ h))
 
-pub ruleset loss-cases = (loss_missed, loss_forced)
+pub ruleset loss_cases = (loss_missed, loss_forced)
 
 abbrev pub lost_of : TaskSet → ℕ → Board → ℕ → Bool
 lost_of τ t p = lost_by (λ r. forced_of τ t r) p
@@ -136,7 +136,7 @@ module _ (τ : TaskSet) (t : ℕ) (p : Board) where
     pub each_keeps : (a c : Bool) → a ≡ may_of p (m - 1) → a ≡ true → c ≡ loss_of τ t p (m - 1) → c ≡ false → false ≡ all_to (lost_of τ t p) m
     each_keeps a c q r e h = all_fails (lost_of τ t p) (m - 1) m m _ (omega arith) refl refl (keeps (m - 1) a c q r e h)
 
-pub ruleset each-cases = (each_none, each_known, each_off, each_loses, each_keeps)
+pub ruleset each_cases = (each_none, each_known, each_off, each_loses, each_keeps)
 
 -- ---- a round
 
@@ -191,7 +191,7 @@ module _ (τ : TaskSet) (ticks : ℕ) (p q : Board) (some : ticks ≡ 0 → ⊥)
       g ∙ turn τ ticks p some (k - 1)
       ∙ sym (split τ ticks p some k (k - 1) (omega arith) ∙ simp (le-leb (slot_at p (k - 1)).next p.clock ready, sym released_turn ∙ t))
 
-pub ruleset round-cases = (round_over, round_each, round_keeps, round_early, round_yes, round_not)
+pub ruleset round_cases = (round_over, round_each, round_keeps, round_early, round_yes, round_not)
 
 -- ---- the move that is tried first: a job that waits, or none
 

@@ -65,7 +65,7 @@ module _ (l : List ℕ) (n : ℕ) where
           play_rows r i h e f =
               rw (e, f) (sym (simp (ne_eqb (length l) 0 a, le-leb (length l) 9 b, eq-eqb (length l % 3) 0 c, ne_eqb n 0 d, le-leb n 12 h)))
 
-pub ruleset play-cases = (play_empty, play_long, play_part, play_none, play_far, play_rows)
+pub ruleset play_cases = (play_empty, play_long, play_part, play_none, play_far, play_rows)
 
 -- what the tests say
 pub playable_playing : (l : List ℕ) (n : ℕ) (b : Bool) → b ≡ playable_of l n → b ≡ true → Playing (tasks_of l) 0 n
@@ -99,7 +99,7 @@ module _ (l : List ℕ) (n : ℕ) (b : Bool) (e : b ≡ playable_of l n) where
     unfolding search_of
     search_held h = sym (simp (sym e ∙ t, sym is_forced ∙ h))
 
-pub ruleset search-cases = (search_refused, search_forced, search_held)
+pub ruleset search_cases = (search_refused, search_forced, search_held)
 
 -- ---- in numbers
 
@@ -116,4 +116,4 @@ module _ (f : Finding) where
   unfolding numbers_of
   shown_refused e = rw e
 
-pub ruleset shown-cases = (shown_forced, shown_held, shown_refused)
+pub ruleset shown_cases = (shown_forced, shown_held, shown_refused)

@@ -1,5 +1,7 @@
 // Arrivals against the scheduler for up to 3 rows and 12 ticks: the game played out (docs/SPECIFICATION.md §13.2; a game tree
 // search).
+#![tactic(auto)]
+
 ghost use Rattle.std.specs.Prelude.{◌≡◌};
 ghost use Rattle.gametree.specs.Entry.{playable_of, search_of, numbers_of};
 ghost use Rattle.gametree.specs.Statement.{Says};

@@ -35,7 +35,7 @@ module _ (t : Told) where
   unfolding telling_reply
   telling_short n e = rw e
 
-pub ruleset telling-cases = (telling_text, telling_unsound, telling_running, telling_short)
+pub ruleset telling_cases = (telling_text, telling_unsound, telling_running, telling_short)
 
 pub telling_is : (x t : Told) (r : Reply) → t ≡ x → r ≡ telling_reply t → r ≡ telling_reply x
 telling_is x t r e f = f ∙ ap telling_reply e

@@ -20,4 +20,4 @@ pub number_not : (s : Session) (b : Bool) → b ≡ sound s → b ≡ false → 
 unfolding sound_number_lem
 number_not s b e f = simp (sym e ∙ f)
 
-pub ruleset sound-cases = (number_sound, number_not)
+pub ruleset sound_cases = (number_sound, number_not)

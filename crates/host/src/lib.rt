@@ -1,5 +1,7 @@
 // The library for C: the opinion on a table, and the calls on a session record of the host, a start and a batch of arrivals
 // among them (docs/SPECIFICATION.md §9). A slice passes as a pointer and a length.
+#![tactic(auto)]
+
 ghost use Rattle.std.specs.Prelude.{◌≡◌, length};
 ghost use Rattle.table.specs.Verdict.{opinion_of};
 ghost use Rattle.session.specs.Start.{start_of};

@@ -1,5 +1,7 @@
 // The calls on a session record that the host lends (docs/SPECIFICATION.md §5.8). Each hands the record to the call by
 // value and writes back the session that it leaves, so that a refused call writes back the same value.
+#![tactic(auto)]
+
 ghost use Rattle.std.specs.Prelude.{◌≡◌, length};
 ghost use Rattle.table.specs.Verdict.{opinion_of};
 ghost use Rattle.table.specs.Opinion.{Says};

@@ -101,7 +101,7 @@ module _ (text first : List ℕ) (p : Progress) (w out : List ℕ) (at : ℕ) (n
       owing_last _ _ _ _ _ _ now.owing 3182 longest (closing (table_of w p)) after r rest f.wrote
       (omega (arith, now.owing.total, ap length rest, f.short, now.paid))
 
-pub ruleset reading-laws = (reading_start, reading_less, reading_ready, reading_next, reading_over, reading_end)
+pub ruleset reading_laws = (reading_start, reading_less, reading_ready, reading_next, reading_over, reading_end)
 
 -- ---- the entry point
 
@@ -114,4 +114,4 @@ entry_printed input text before after n r h e f p =
 pub entry_short : (input before : List ℕ) → length before < longest → Answered input before before 0
 entry_short input before h = filled_short longest longest (output_of input) before refl h
 
-pub ruleset entry-cases = (entry_short, read_limit, entry_printed)
+pub ruleset entry_cases = (entry_short, read_limit, entry_printed)

@@ -9,7 +9,7 @@ use Rattle.std.proofs.Math.Decide.{dec_lt}
 use borrow.Author.Tests.{lt-ltb, le-ltb, ltb-true, ltb-false, le-leb, lt-leb, eq-eqb, ne_eqb}
 use Rattle.bounded.specs.Least.{Passed, passed_start, passed_next, first_found, first_none, least_at, least_before}
 use Rattle.decimal.specs.Buffer.{Wrote, wrote_none, wrote_more, wrote_within}
-use Rattle.decimal.specs.Joined.{Joined, joined_start, joined_all, joined-laws}
+use Rattle.decimal.specs.Joined.{Joined, joined_start, joined_all, joined_laws}
 use Rattle.edf.specs.Demand.{TaskSet, demand}
 use Rattle.game.specs.Game.{line_to, Exceeds}
 use Rattle.lines.specs.Text.{line_text}
@@ -39,7 +39,7 @@ pub over_none : (τ : TaskSet) (t n end : ℕ) → Passed (over τ) t → end �
 unfolding overload_by
 over_none τ t n end h k q = first_none (over τ) t end (n + 1) h k q
 
-pub ruleset over-laws = (passed_start, over_next, over_found, over_none)
+pub ruleset over_laws = (passed_start, over_next, over_found, over_none)
 
 -- ---- `put_release`
 
@@ -64,7 +64,7 @@ module _ (τ : TaskSet) (t c i : ℕ) (k : Task) (f : FitRow τ i k) (d : List �
       simp (lt-ltb i τ.rows l, eq-eqb (c % τ.T i) 0 (rw f.row.period at m), le-leb (c + τ.D i) t (rw f.row.deadline at h))
       (rw f.row.deadline at w)
 
-pub ruleset release-cases = (release_off, release_late, release_is)
+pub ruleset release_cases = (release_off, release_late, release_is)
 
 -- ---- `put_tick`; the code counts the rows
 
@@ -77,7 +77,7 @@ module _ (τ : TaskSet) (t c rows : ℕ) (is : rows ≡ τ.rows) (few : τ.rows 
   tick_end i e p x h =
       wrote_within (86 * τ.rows) 258 _ d e at p (omega arith) (rw is at (joined_all (release_text τ t c) 86 rows d at i e p x h))
 
-pub ruleset tick-laws = (tick_start, tick_end, joined-laws)
+pub ruleset tick_laws = (tick_start, tick_end, joined_laws)
 
 -- ---- `put_releases`
 
@@ -89,7 +89,7 @@ module _ (τ : TaskSet) (t : ℕ) (short : t ≤ 12) (d : List ℕ) (at : ℕ) w
   unfolding releases_text
   releases_end c e p x h = wrote_within (258 * t) 3096 _ d e at p (omega arith) (joined_all (tick_text τ t) 258 t d at c e p x h)
 
-pub ruleset releases-laws = (releases_start, releases_end, joined-laws)
+pub ruleset releases_laws = (releases_start, releases_end, joined_laws)
 
 -- ---- `put_answer`
 
@@ -151,4 +151,4 @@ module _ (l : List ℕ) (n : ℕ) (f : Finding) (e : f ≡ search_of l n) (v : N
   pub answer_refused : f ≡ Refused → Wrote 3182 (answer_text l n) b d at p
   answer_refused k = whole Refused k d p (simp append-nil (wrote_within 86 3182 _ b d at p (omega arith) (head Refused k)))
 
-pub ruleset answer-cases = (forced_fit, forced_few, forced_short, forced_twelve, answer_forced, answer_held, answer_refused)
+pub ruleset answer_cases = (forced_fit, forced_few, forced_short, forced_twelve, answer_forced, answer_held, answer_refused)

@@ -37,7 +37,7 @@ module _ (l : List ℕ) (x : Number) (is : x ≡ number_of l) where
   pub ask_none : x ≡ None → Unreadable ≡ asked (number_of l)
   ask_none e = ap asked (sym e ∙ is)
 
-pub ruleset ask-cases = (ask_number, ask_none)
+pub ruleset ask_cases = (ask_number, ask_none)
 
 -- ---- `read_other`
 
@@ -57,7 +57,7 @@ module _ (l : List ℕ) (x : Line) (is : x ≡ line_of l) where
   pub other_unreadable : x ≡ line.Unreadable → Unreadable ≡ row_of (line_of l)
   other_unreadable e = ap row_of (sym e ∙ is)
 
-pub ruleset other-cases = (other_row, other_word, other_call, other_empty, other_unreadable)
+pub ruleset other_cases = (other_row, other_word, other_call, other_empty, other_unreadable)
 
 -- ---- `read_item`
 
@@ -83,7 +83,7 @@ module _ (l : List ℕ) (x : Item) where
   unfolding item_of
   item_ask rest a b d e = e ∙ rw d (sym (simp (eq-eqb (get_or l 0 0) 78 a, eq-eqb (get_or l 1 0) 9 b)))
 
-pub ruleset item-cases = (item_short, item_letter, item_tab, item_ask, tail_is)
+pub ruleset item_cases = (item_short, item_letter, item_tab, item_ask, tail_is)
 
 -- ---- `next_item`
 
@@ -100,4 +100,4 @@ module _ (l rest : List ℕ) (at e : ℕ) (h : at < length l) (i : rest ≡ drop
     within = next_within item_of Unreadable l rest at e h i p k;
   }
 
-pub ruleset took-cases = (took_left, took_line, tail_is)
+pub ruleset took_cases = (took_left, took_line, tail_is)

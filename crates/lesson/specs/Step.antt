@@ -153,11 +153,11 @@ module _ (p : Progress) (w before : List ℕ) (ready : Ready p before) (places :
       let is : closing (table_of w p) ≡ [] = simp (ne_eqb p.asked 0 n) in
       record { wrote = rw is (wrote_none 3182 before p.end); short = omega (arith, ap length is, ready.asks) }
 
-pub ruleset add-cases = (add_full, add_row)
+pub ruleset add_cases = (add_full, add_row)
 
-pub ruleset ask-cases = (ask_full, ask_is, ask_room)
+pub ruleset ask_cases = (ask_full, ask_is, ask_room)
 
-pub ruleset finish-cases = (finish_none, finish_asked, ask_room)
+pub ruleset finish_cases = (finish_none, finish_asked, ask_room)
 
 -- ---- `step`
 
@@ -172,4 +172,4 @@ module _ (x : Item) (p r : Progress) (w before after : List ℕ) where
   pub step_ask : (n : ℕ) → x ≡ Ask n → ItemDid (Ask n) p r w w before after → ItemDid x p r w w before after
   step_ask n e u = rw e u
 
-pub ruleset step-cases = (step_unreadable, step_row, step_ask)
+pub ruleset step_cases = (step_unreadable, step_row, step_ask)

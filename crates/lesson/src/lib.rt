@@ -1,4 +1,6 @@
 // The text that `contest` reads and writes, as one function from bytes to bytes (docs/SPECIFICATION.md §13.4).
+#![tactic(auto)]
+
 ghost use Rattle.std.specs.Prelude.{◌≤◌, length};
 ghost use Rattle.decimal.specs.Buffer.{Wrote};
 ghost use Rattle.lesson.specs.Item.{items_of};

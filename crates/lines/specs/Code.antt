@@ -32,7 +32,7 @@ module _ (c : ℕ) where
   unfolding bare_of
   bare_other n m = simp (ne_eqb c 71 n, ne_eqb c 70 m)
 
-pub ruleset bare-cases = (bare_choose, bare_finish, bare_other)
+pub ruleset bare_cases = (bare_choose, bare_finish, bare_other)
 
 module _ (c n : ℕ) where
   pub single_word : c ≡ 87 → Word n ≡ single_of_lem c n
@@ -51,7 +51,7 @@ module _ (c n : ℕ) where
   unfolding single_of_lem
   single_other a b d = simp (ne_eqb c 87 a, ne_eqb c 65 b, ne_eqb c 82 d)
 
-pub ruleset single-cases = (single_word, single_arrive, single_advance, single_other)
+pub ruleset single_cases = (single_word, single_arrive, single_advance, single_other)
 
 pub row_given : (a b c : Number) (x y z : ℕ) → a ≡ Of x → b ≡ Of y → c ≡ Of z → Row x y z ≡ given_three (triple_of 84) a b c
 unfolding triple_of
@@ -119,7 +119,7 @@ module _ (c n : ℕ) (x y : Number) (e : x ≡ y) where
   pub single_none : x ≡ None → Unreadable ≡ given (single_of_lem c) y
   single_none f = ap (given (single_of_lem c)) (sym f ∙ e)
 
-pub ruleset number-cases = (single_of, single_none)
+pub ruleset number_cases = (single_of, single_none)
 
 -- ---- a row
 
@@ -157,7 +157,7 @@ module _ (t : List ℕ) (e : ℕ) (h : Place 9 t e) where
         ∙ ap (λ (x : List (List ℕ)). line_in ((84 ∷ []) ∷ take e t ∷ x)) (sym (parted_at 9 m f g j))
         ∙ sym row_rest
 
-pub ruleset row-cases = (row_one, row_two, row_three, tail_is)
+pub ruleset row_cases = (row_one, row_two, row_three, tail_is)
 
 -- ---- a line
 
@@ -202,4 +202,4 @@ module _ (l rest : List ℕ) (r : Line) (n : length l ≡ 0 → ⊥) (m : length
   pub line_single : (get_or l 0 0 ≡ 84 → ⊥) → r ≡ given (single_of_lem (get_or l 0 0)) (number_of rest) → r ≡ line_of l
   line_single k h = h ∙ rw i (sym (single_line (get_or l 0 0) k (drop 2 l))) ∙ sym (line_letter l n m t u)
 
-pub ruleset line-cases = (line_empty, line_bare, line_tab, line_long, line_row, line_single, tail_is)
+pub ruleset line_cases = (line_empty, line_bare, line_tab, line_long, line_row, line_single, tail_is)

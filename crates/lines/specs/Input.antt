@@ -221,4 +221,4 @@ module _ (d : List ℕ) (at : ℕ) where
     pub line_written : (x y : Line) → x ≡ y → Wrote m (input_line y) d e at q → m ≤ 65 → Wrote 65 (input_line x) d e at q
     line_written x y h w l = rw h (wrote_within m 65 (input_line y) d e at q l w)
 
-pub ruleset piece-laws = (bare_written, single_written, row_written)
+pub ruleset piece_laws = (bare_written, single_written, row_written)

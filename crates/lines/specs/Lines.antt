@@ -217,4 +217,4 @@ module _ (l rest : List ℕ) (at e : ℕ) (h : at < length l) (i : rest ≡ drop
     some = λ n h. omega (arith, line_some (take e rest) (λ z. n (g ∙ z)), length-take-le e rest (omega arith));
   }
 
-pub ruleset took-cases = (took_left, took_line, tail_is)
+pub ruleset took_cases = (took_left, took_line, tail_is)

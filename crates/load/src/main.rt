@@ -1,4 +1,6 @@
 // Prints the trial of the seed on standard input (docs/WORKLOAD.md).
+#![tactic(auto)]
+
 use libc::{STDIN_FILENO, STDOUT_FILENO};
 
 // A function of its own, so that no proof about `main` has to spell out its zeros.

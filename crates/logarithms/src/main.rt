@@ -1,5 +1,7 @@
 // Prints the meter's g, eight times the base-2 logarithm of n, rounded down: a line for each n from 1 to 255
 // (docs/SPECIFICATION.md §10.2).
+#![tactic(auto)]
+
 ghost use Rattle.std.specs.Prelude.{◌≤◌};
 
 use libc::STDOUT_FILENO;

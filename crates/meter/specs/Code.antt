@@ -56,7 +56,7 @@ module _ (a : List ℕ) (p q : ℕ) where
   unfolding apart
   apart_done i n r e b l h = record { is = sum_done (apart_at a p q) i n n r e l h refl; small = omega arith }
 
-pub ruleset apart-laws = (sum_start, apart_next, apart_done)
+pub ruleset apart_laws = (sum_start, apart_next, apart_done)
 
 -- ---- the rows of a stretch
 
@@ -106,7 +106,7 @@ module _ (a : List ℕ) (h : Shape) (k t : ℕ) (l : List ℕ) where
 pub first_is : (a : List ℕ) (h : Shape) (k i m p q r : ℕ) → Place a h k p → Place a h i q → m ≡ h.window → Within m (apart a p q m) r → r ≡ differing a h k i 0
 first_is a h k i m p q r v w e d = d.is ∙ ap (apart a p q) e ∙ apart_first a h k i p q v w
 
-pub ruleset first-laws = (counts_start, first_is, counts_next, counts_done)
+pub ruleset first_laws = (counts_start, first_is, counts_next, counts_done)
 
 -- ---- `joining`
 
@@ -125,7 +125,7 @@ joins_is h t m z r l e g w =
     let is : r ≡ (t + h.window) % h.ticks = w ∙ rw (e, g) in
     record { is = is; below = rw is (mod-lt (t + h.window) {m = h.ticks} (omega arith)) }
 
-pub ruleset joins-laws = (joins_fits, joins_may, joins_is)
+pub ruleset joins_laws = (joins_fits, joins_may, joins_is)
 
 -- ---- `around`
 
@@ -135,7 +135,7 @@ around_not x l h = sym (mod-eq_of_lt h)
 pub around_once : (x l : ℕ) → l ≤ x → x < l + l → x - l ≡ x % l
 around_once x l h u = sym (mod-eq-sub-mod h ∙ mod-eq_of_lt (omega arith))
 
-pub ruleset around-laws = (around_not, around_once)
+pub ruleset around_laws = (around_not, around_once)
 
 -- ---- `moved`
 
@@ -192,7 +192,7 @@ module _ (a : List ℕ) (h : Shape) (k t j d : ℕ) (is : d ≡ differing a h k 
     pub like_next : (l : List ℕ) (r : ℕ) → Moved a p q t e d r → set l j r ≡ set l j (differing a h k j (t + 1))
     like_next l r y = ap (set l j) (omega (arith, y.is, is, gone_is, come_is, differing_next a h k j t))
 
-pub ruleset like-laws = (like_is, may_move, like_next)
+pub ruleset like_laws = (like_is, may_move, like_next)
 
 -- ---- `alike_at`
 
@@ -215,7 +215,7 @@ module _ (a : List ℕ) (h : Shape) (k t : ℕ) where
   pub counts_moved : (l x : List ℕ) (i n : ℕ) → Counts a h k t l → x ≡ counts_to a h k (t + 1) l i → Shaped a h → i ≤ n → n ≤ i → n ≡ h.stretches → Counts a h k (t + 1) x
   counts_moved l x i n c e f u v g = counts_done a h k (t + 1) l x i n e c.places f u v g
 
-pub ruleset alike-laws = (sum_start, counts_start, counts_left, alike_next, counts_set, alike_done, counts_moved)
+pub ruleset alike_laws = (sum_start, counts_start, counts_left, alike_next, counts_set, alike_done, counts_moved)
 
 -- ---- `gaps_of`
 
@@ -247,7 +247,7 @@ module _ (n : ℕ) where
   unfolding gaps_of_lem
   gaps_done l i e u v = let z : i ≡ n = omega arith in e ∙ ap (gaps_to n) z
 
-pub ruleset gaps-laws = (gaps_start, gaps_may, gaps_next, gaps_done)
+pub ruleset gaps_laws = (gaps_start, gaps_may, gaps_next, gaps_done)
 
 -- ---- `gap`
 
@@ -274,7 +274,7 @@ module _ (a : List ℕ) (h : Shape) (f : Shaped a h) (k t c : ℕ) (l : k < h.st
       let z : r ≡ gap_at a h k t = q ∙ rw w entry_is in
       record { is = z; small = omega (arith, z) }
 
-pub ruleset gap-laws = (alike_low, alike_high, gap_is)
+pub ruleset gap_laws = (alike_low, alike_high, gap_is)
 
 -- ---- `stretch`
 
@@ -313,7 +313,7 @@ module _ (a : List ℕ) (h : Shape) (k : ℕ) where
         let e : t ≡ h.ticks = omega (arith, x.within) in
         record { is = x.sum ∙ ap (sum_to (gap_at a h k)) e; small = summing_most f }
 
-pub ruleset summing-laws = (summing_start, summing_counts, summing_fits, summing_next, summing_done)
+pub ruleset summing_laws = (summing_start, summing_counts, summing_fits, summing_next, summing_done)
 
 -- ---- `total`
 
@@ -324,4 +324,4 @@ total_done a h i n s e l u f = sum_done (stretch_of a h) i n h.stretches s e l u
 pub gaps_for : (h : Shape) (n : ℕ) (l : List ℕ) → n ≡ h.stretches → l ≡ gaps_of_lem n → l ≡ gaps_of_lem h.stretches
 gaps_for h n l e g = g ∙ ap gaps_of_lem e
 
-pub ruleset total-laws = (sum_start, gaps_for, sum_next, total_done)
+pub ruleset total_laws = (sum_start, gaps_for, sum_next, total_done)

@@ -32,7 +32,7 @@ module _ (n : ℕ) (few : n ≤ 255) where
   pub power_fits : Fits w64 (n * n * (n * n) * (n * n * (n * n)))
   power_fits = record { fits = omega (arith, power_is n, power_small) }
 
-pub ruleset power-laws = (power_is, second_fits, fourth_fits, power_fits)
+pub ruleset power_laws = (power_is, second_fits, fourth_fits, power_fits)
 
 -- ---- `highest_one`
 
@@ -57,7 +57,7 @@ power_some n x some e = omega (arith, one-le-pow 8 n some)
 pub eighths_by : (n x r : ℕ) → x ≡ n ^ 8 → (2 ^ r ≤ x) × (x < 2 ^ (r + 1)) → Eighths n r
 eighths_by n x r e p = record { low = rw (← e) p.0; high = rw (← e) p.1 }
 
-pub ruleset eighths-laws = (power_some, eighths_by)
+pub ruleset eighths_laws = (power_some, eighths_by)
 
 -- ---- the statements
 

@@ -114,6 +114,6 @@ module _ (a : List ℕ) (h : Shape) where
 pub size_fits : (n l : ℕ) → n ≤ 255 → l ≤ 16384 → Fits w64 (n * l)
 size_fits n l a b = record { fits = omega (arith, mul-le-mul {n₁ = n} {m₁ = l} {n₂ = 255} {m₂ = 16384} a b) }
 
-pub ruleset fit-laws = (fit_none, fit_many, fit_empty, fit_wide, fit_large, fit_long, fit_length)
+pub ruleset fit_laws = (fit_none, fit_many, fit_empty, fit_wide, fit_large, fit_long, fit_length)
 
-pub ruleset measure-laws = (measure_may, measure_is, measure_not)
+pub ruleset measure_laws = (measure_may, measure_is, measure_not)

@@ -1,4 +1,6 @@
 // How mixed a schedule is (docs/SPECIFICATION.md §10).
+#![tactic(auto)]
+
 ghost use Rattle.std.specs.Prelude.{◌≡◌, ◌+◌, ◌-◌, ◌%◌, ◌≤◌, ◌<◌, leb, length, get_or, set};
 ghost use Rattle.bounded.specs.Tests.{gate};
 ghost use Rattle.bounded.specs.Within.{Within};

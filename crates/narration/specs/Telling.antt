@@ -88,7 +88,7 @@ pub closed_over : (t : State) (n : ℕ) → n ≤ t.at → over_at t ≡ closed_
 unfolding closed_at_lem
 closed_over t n h = sym (simp (le-ltb t.at n h))
 
-pub ruleset closed-cases = (closed_open, closed_over)
+pub ruleset closed_cases = (closed_open, closed_over)
 
 module _ (text : List ℕ) (t r : State) (words : List ℕ) (e : r ≡ closed_at_lem t (length text)) where
   pub closed_end : r.play.end ≡ t.play.end
@@ -154,7 +154,7 @@ module _ (s : Session) (q : List ℕ) (x : Line) (d : List ℕ) (at : ℕ) where
       unfolding explanation_after choose_of choose_in
       put_accepted b r k w = rw (e, f) (simp (h, le-ltb 0 s.span k) w)
 
-pub ruleset put-cases = (put_other, put_call, put_refused, put_accepted)
+pub ruleset put_cases = (put_other, put_call, put_refused, put_accepted)
 
 -- ---- `tell_line`
 
@@ -265,7 +265,7 @@ module _ (text : List ℕ) (t : State) (words before : List ℕ) (on : t.play.ov
               further = omega (arith, closed_at text next r words' c, k.size, size_some n.line);
             }
 
-pub ruleset line-laws = (line_sound, line_ready, line_left, line_place, line_room, line_order, line_within, line_told)
+pub ruleset line_laws = (line_sound, line_ready, line_left, line_place, line_room, line_order, line_within, line_told)
 
 -- ---- `begin`
 
@@ -348,7 +348,7 @@ module _ (text : List ℕ) (t₀ : State) (words₀ out₀ : List ℕ) (t : Stat
   pub telling_done : t.play.over ≡ true → Continued text t₀ t words₀ words out
   telling_done h = told_of (λ z. ⊎_elim (λ y. absurd (true≢false (sym h ∙ y.2 ∙ z))) (λ y. y) now.further)
 
-pub ruleset telling-laws = (telling_start, telling_next, telling_full, telling_done, telling_less)
+pub ruleset telling_laws = (telling_start, telling_next, telling_full, telling_done, telling_less)
 
 -- ---- for their caller
 
@@ -360,4 +360,4 @@ pub told_less : (text : List ℕ) (t r : State) (words words' out : List ℕ) �
     → length text - r.at < length text - t.at
 told_less text t r words words' out f g d = omega (arith, g.left f, d.further f)
 
-pub ruleset caller-laws = (begun_going, told_less)
+pub ruleset caller_laws = (begun_going, told_less)

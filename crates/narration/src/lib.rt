@@ -1,6 +1,8 @@
 // What the program `explained` writes (docs/EXPLANATIONS.md, the last section), a part at a time: each line of `shuffle`, and the
 // text of the explanation after each choose that is accepted. Both functions are internal: their caller lends the buffers, and
 // hands on the state and the words as the call before left them.
+#![tactic(auto)]
+
 ghost use Rattle.std.specs.Prelude.{◌≡◌, true, false, ◌+◌, ◌≤◌, length};
 ghost use Rattle.decimal.specs.Buffer.{Wrote};
 ghost use Rattle.session.specs.Sound.{sound};

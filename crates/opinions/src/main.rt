@@ -1,4 +1,6 @@
 // Gives the opinions on the tables on standard input (docs/SPECIFICATION.md §8.6).
+#![tactic(auto)]
+
 use libc::{STDIN_FILENO, STDOUT_FILENO};
 
 // Two functions of their own, so that no proof about `main` has to spell out their zeros.

@@ -1,5 +1,7 @@
 // Reads the text of one explanation from standard input and prints its parts as numbers, or a question mark where the bytes are no
 // such text (docs/SPECIFICATION.md §11.5).
+#![tactic(auto)]
+
 ghost use Rattle.std.specs.Prelude.{◌≤◌};
 
 use libc::{STDIN_FILENO, STDOUT_FILENO};

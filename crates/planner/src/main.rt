@@ -1,4 +1,6 @@
 // Gives what a planner wants to know of the table and the calls on standard input (docs/SPECIFICATION.md §14.4).
+#![tactic(auto)]
+
 use libc::{STDIN_FILENO, STDOUT_FILENO};
 
 // Two functions of their own, so that no proof about `main` has to spell out their zeros.

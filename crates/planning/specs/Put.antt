@@ -4,7 +4,7 @@ use Rattle.std.proofs.Math.Path.{sym}
 use Rattle.std.proofs.Common.{ap, ◌∙◌, div-le_self, arith, eq-eqb, ne_eqb, lt-ltb, le-ltb}
 use Rattle.bounded.specs.Quotient.{ceil_div, ceil_rest}
 use Rattle.decimal.specs.Buffer.{Wrote, wrote_none, wrote_more, wrote_within}
-use Rattle.decimal.specs.Joined.{Joined, joined_start, joined_room, joined_next, joined_all, joined-laws}
+use Rattle.decimal.specs.Joined.{Joined, joined_start, joined_room, joined_next, joined_all, joined_laws}
 use Rattle.edf.specs.Jobs.{jobs_by_lem, jobs_none, jobs_some}
 use Rattle.edf.specs.Demand.{TaskSet, demand}
 use Rattle.lines.specs.Text.{field_text, head_text, line_text}
@@ -20,7 +20,7 @@ rounded_fits a b n h l = omega (arith, div-le_self (a - 1) b)
 pub rounded_is : (a b : ℕ) → 1 ≤ a → 1 ≤ b → (a - 1) / b + 1 ≡ ceil_div a b
 rounded_is a b h l = sym (ceil_rest a b h l)
 
-pub ruleset rounded-laws = (rounded_fits, rounded_is)
+pub ruleset rounded_laws = (rounded_fits, rounded_is)
 
 -- ---- `cost`
 
@@ -33,7 +33,7 @@ module _ (τ : TaskSet) (i j : ℕ) where
   unfolding cost_of
   cost_other k m r ne f g e = e ∙ rw (f.row.deadline, g.row.period) (sym (simp (ne_eqb i j ne)))
 
-pub ruleset cost-cases = (cost_own, cost_other)
+pub ruleset cost_cases = (cost_own, cost_other)
 
 -- ---- `put_cost`
 
@@ -51,7 +51,7 @@ module _ (τ : TaskSet) (i j : ℕ) (k : Task) (f : FitRow τ j k) (d : List ℕ
       simp (lt-ltb (τ.C j) (τ.D j) (omega (arith, f.row.run, f.row.deadline)))
       (rw (← is) (wrote_more 86 21 (head_text 0 83 0 i ++ field_text j 9) (field_text c 10) d g h at q r (omega (arith, u.short)) u z))
 
-pub ruleset put-cost-cases = (cost_none, cost_put)
+pub ruleset put_cost_cases = (cost_none, cost_put)
 
 -- ---- `put_row_costs` and `put_costs`; the code counts the rows
 
@@ -80,9 +80,9 @@ module _ (τ : TaskSet) (rows : ℕ) (is : rows ≡ τ.rows) (few : τ.rows ≤ 
   cuts_end t i e p x h =
       rw is at (wrote_within _ 1376 _ d e at p (omega arith) (joined_all (cut_text τ t) 86 rows d at i e p x h))
 
-pub ruleset row_laws = (row_start, row_end, joined-laws)
+pub ruleset row_laws = (row_start, row_end, joined_laws)
 
-pub ruleset costs-laws = (costs_start, costs_end, joined-laws)
+pub ruleset costs_laws = (costs_start, costs_end, joined_laws)
 
 -- ---- `cut`
 
@@ -115,7 +115,7 @@ module _ (τ : TaskSet) (t excess i : ℕ) (k : Task) (f : FitRow τ i k) where
     cut_short h =
         sym (simp (ne_eqb (jobs_by_lem (τ.D i) (τ.T i) t) 0 some_jobs) (rw fall_is (simp (le-ltb r (τ.C i) (omega (arith, f.row.run))))))
 
-pub ruleset cut-cases = (cut_early, jobs_fit, cut_falls, cut_short)
+pub ruleset cut_cases = (cut_early, jobs_fit, cut_falls, cut_short)
 
 -- ---- `put_cuts`
 
@@ -124,4 +124,4 @@ pub cuts_next : (τ : TaskSet) (t rows : ℕ) (d : List ℕ) (at i : ℕ) (e : L
 cuts_next τ t rows d at i e p k g q x h is w =
     joined_next (cut_text τ t) 86 rows d at i e p x (line_text 0 76 0 i k) g q h w (ap (line_text 0 76 0 i) is)
 
-pub ruleset cuts-laws = (cuts_start, joined_room, cuts_next, cuts_end)
+pub ruleset cuts_laws = (cuts_start, joined_room, cuts_next, cuts_end)

@@ -1,5 +1,7 @@
 // What one tick more in C of a row costs, and how far C of a row must fall where a table is overloaded (docs/SPECIFICATION.md §14.2, §14.3):
 // the lines `S` and `L` of `planner`. Internal: whoever calls these has asked for the opinion, which tests the rows, and has seen to the room.
+#![tactic(auto)]
+
 ghost use Rattle.std.specs.Prelude.{◌≡◌, ◌+◌, ◌≤◌, ◌<◌, length};
 ghost use Rattle.bounded.specs.Quotient.{ceil_div};
 ghost use Rattle.decimal.specs.Buffer.{Wrote};

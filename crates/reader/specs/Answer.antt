@@ -99,4 +99,4 @@ module _ (l : List ℕ) (n : FoundNumber) (r : Took (number_at (drop 14 l)) l n.
         absurd (true≢false (sym g ∙ sym compared ∙ d)))
         (λ m. none_read l m)
 
-pub ruleset read-cases = (read_many, read_same, read_other)
+pub ruleset read_cases = (read_many, read_same, read_other)

@@ -48,9 +48,9 @@ module _ (l : List ℕ) (at n : ℕ) where
     pub byte_none : length l ≤ e → 0 ≡ get_or (drop at l) n 0
     byte_none h = sym (get_or-eq_default l 0 h) ∙ byte_on
 
-pub ruleset skip-cases = (skip_none, skip_end, skip_on)
+pub ruleset skip_cases = (skip_none, skip_end, skip_on)
 
-pub ruleset byte-cases = (byte_none, byte_on)
+pub ruleset byte_cases = (byte_none, byte_on)
 
 -- ---- a number
 
@@ -107,7 +107,7 @@ module _ (l : List ℕ) (at v i : ℕ) (r : Digits l at v i) where
           rest = simp (next, y) at r.rest;
         }
 
-pub ruleset digits-cases = (digits_start, digits_done, digits_low, digits_high, digits_next)
+pub ruleset digits_cases = (digits_start, digits_done, digits_low, digits_high, digits_next)
 
 pub number_is : (l : List ℕ) (at n e : ℕ) (r : FoundNumber) → drop e l ≡ drop n (drop at l) → Took (number_at (drop e l)) l r.value r.at
     → Took (number_at (drop n (drop at l))) l r.value r.at
@@ -124,7 +124,7 @@ module _ (l t : List ℕ) (b : ℕ) where
   unfolding past_holds_lem
   holds_no g n = simp (← g, ne_eqb b 32 n)
 
-pub ruleset holds-cases = (holds_yes, holds_no)
+pub ruleset holds_cases = (holds_yes, holds_no)
 
 module _ (l t : List ℕ) (b e : ℕ) where
   pub candidate_yes : b ≡ get_or t 2 0 → b ≡ 99 → drop e l ≡ drop 13 t → Took (candidate_in t) l true e
@@ -135,7 +135,7 @@ module _ (l t : List ℕ) (b e : ℕ) where
   unfolding candidate_in
   candidate_no g n q = simp (← g, ne_eqb b 99 n) (record { part = refl; rest = q })
 
-pub ruleset candidate-cases = (candidate_yes, candidate_no)
+pub ruleset candidate_cases = (candidate_yes, candidate_no)
 
 -- ---- jobs
 
@@ -185,7 +185,7 @@ jobs_next l t i e next js j h r q =
 pub jobs_done : (l t : List ℕ) (i n e : ℕ) (js : List Held) → i ≤ n → n ≤ i → Took (jobs_at i t) l js e → Took (jobs_at n t) l js e
 jobs_done l t i n e js a b r = let q : i ≡ n = omega arith in rw q at r
 
-pub ruleset jobs-cases = (jobs_start, jobs_next, jobs_done)
+pub ruleset jobs_cases = (jobs_start, jobs_next, jobs_done)
 
 -- ---- the other parts
 
@@ -217,11 +217,11 @@ module _ (l t : List ℕ) (b : ℕ) where
   unfolding decided_at decided_in
   decided_no e g n q = simp (← g, ne_eqb b 98 n) (record { part = refl; rest = q })
 
-pub ruleset brittle-cases = (brittle_yes, brittle_no)
+pub ruleset brittle_cases = (brittle_yes, brittle_no)
 
-pub ruleset chosen-cases = (chosen_idle_lem, chosen_row_lem)
+pub ruleset chosen_cases = (chosen_idle_lem, chosen_row_lem)
 
-pub ruleset decided-cases = (decided_yes, decided_no)
+pub ruleset decided_cases = (decided_yes, decided_no)
 
 module _ (t : List ℕ) (b : ℕ) (g : b ≡ get_or t 3 0) where
   pub cause_remaining : b ≡ 116 → Remaining ≡ cause_in t
@@ -240,7 +240,7 @@ module _ (t : List ℕ) (b : ℕ) (g : b ≡ get_or t 3 0) where
   unfolding cause_in
   cause_nothing m n o = simp (← g, ne_eqb b 116 m, ne_eqb b 101 n, ne_eqb b 104 o)
 
-pub ruleset cause-cases = (cause_remaining, cause_word, cause_no_word, cause_nothing)
+pub ruleset cause_cases = (cause_remaining, cause_word, cause_no_word, cause_nothing)
 
 -- ---- all of them
 

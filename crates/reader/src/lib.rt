@@ -1,4 +1,6 @@
 // The text of an explanation, read back: the parts that it tells, or that the bytes are no such text (docs/EXPLANATIONS.md).
+#![tactic(auto)]
+
 ghost use Rattle.std.specs.Prelude.{◌≡◌, ◌≤◌};
 ghost use Rattle.wording.specs.Explanation.{held_in};
 ghost use Rattle.wording.specs.Text.{text_of};

@@ -1,5 +1,7 @@
 // Runs the cases on standard input through the library, one after another. A case is its length on a line and then as many
 // bytes; what is written for it is followed by the line `--`.
+#![tactic(auto)]
+
 ghost use Rattle.std.specs.Prelude.{◌<◌, length};
 ghost use Rattle.replay.specs.Case.{Past};
 

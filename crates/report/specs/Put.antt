@@ -6,7 +6,7 @@ use Rattle.std.proofs.lemmas.Bool.{false≢true}
 use Rattle.bounded.specs.Signed.{negative}
 use Rattle.decimal.specs.Decimal.{decimal}
 use Rattle.decimal.specs.Buffer.{Wrote, wrote_more, wrote_within}
-use Rattle.decimal.specs.Joined.{Joined, joined_start, joined_all, joined-laws}
+use Rattle.decimal.specs.Joined.{Joined, joined_start, joined_all, joined_laws}
 use Rattle.lines.specs.Text.{head_text, line_text}
 use Rattle.table.specs.declared.Numbers.{Numbers}
 use Rattle.table.specs.declared.Judgement.{Judgement}
@@ -35,7 +35,7 @@ module _ (v w : ℤ) (b : Bool) (n : ℕ) (d : List ℕ) (at : ℕ) (r : w ≡ v
   signed_above e p t x =
       rw (signed_plain v (ap negative (sym r) ∙ sym h ∙ t), ← r, ← m) (wrote_within 21 22 (decimal n ++ 10 ∷ []) d e at p (omega arith) x)
 
-pub ruleset signed-cases = (signed_below, signed_above)
+pub ruleset signed_cases = (signed_below, signed_above)
 
 -- ---- `put_budget`
 
@@ -58,7 +58,7 @@ module _ (v : List ℤ) (rows : ℕ) (d : List ℕ) (at : ℕ) where
   unfolding budgets_text
   budgets_end i e p x h = joined_all (budget_at v) 87 rows d at i e p x h
 
-pub ruleset budgets-laws = (budgets_start, budgets_end, joined-laws)
+pub ruleset budgets_laws = (budgets_start, budgets_end, joined_laws)
 
 -- ---- `put_opinion`
 
@@ -94,4 +94,4 @@ module _ (a : Judgement) (n : Numbers) (d e : List ℕ) (at p : ℕ) (g : Shows 
         rest = λ z. absurd (ne z);
       }
 
-pub ruleset opinion-cases = (opinion_yes, opinion_not)
+pub ruleset opinion_cases = (opinion_yes, opinion_not)

@@ -1,5 +1,7 @@
 // What is printed of an opinion: the line `M` and, for each row of an admitted table, a line `B` (docs/SPECIFICATION.md §8.3);
 // and how much of an input is read (§8.1, §8.6).
+#![tactic(auto)]
+
 ghost use Rattle.std.specs.Prelude.{◌≡◌, [], ◌∷◌, ◌++◌, ◌+◌, ◌*◌, ◌≤◌, min, length};
 ghost use Rattle.decimal.specs.Buffer.{Wrote};
 ghost use Rattle.table.specs.Opinion.{shown_of};

@@ -78,7 +78,7 @@ module _ (text : List ℕ) (j : Judged) (out : List ℕ) (g : Calls text j out) 
       → Wrote (room_of text - j.end) (items_text (items_of (lines_of text))) out after j.end r
   calls_done after r v = rw (items_are, opens_admitted text t opens (text_by ws) on) (rw end_is at v)
 
-pub ruleset calls-laws = (calls_startable, calls_begun, calls_done)
+pub ruleset calls_laws = (calls_startable, calls_begun, calls_done)
 
 -- ---- `print`
 
@@ -123,7 +123,7 @@ module _ (text before middle : List ℕ) (j : Judged) (g : Judges text j before 
         let y = wrote_more 28870 (room_of text - end) _ _ before later after 0 end r (omega (arith, front.short)) front v in
         record { buffer = y.buffer; place = y.place; short = omega (arith, y.place, v.place, v.short, front.place, front.short) }
 
-pub ruleset print-laws = (print_refusal, print_room, print_refused, print_calls, print_done)
+pub ruleset print_laws = (print_refusal, print_room, print_refused, print_calls, print_done)
 
 -- ---- the entry point
 
@@ -133,4 +133,4 @@ unfolding planned_of
 entry_printed input text before after k n r d h e f p =
     filled_printed input_limit input n e 31004 64 k r (λ (x : List ℕ). printed_of (lines_of x)) text before after d h f p
 
-pub ruleset entry-cases = (filled_short, read_limit, room_kept, entry_printed)
+pub ruleset entry_cases = (filled_short, read_limit, room_kept, entry_printed)

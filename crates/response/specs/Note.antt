@@ -38,7 +38,7 @@ gained_some b n e = sym (gate_on b n e)
 pub gained_none : (b : Bool) (n : ℕ) → b ≡ false → 0 ≡ gate b n
 gained_none b n e = sym (gate_off b n e)
 
-pub ruleset gained-cases = (gained_some, gained_none)
+pub ruleset gained_cases = (gained_some, gained_none)
 
 -- ---- `aged`
 
@@ -80,7 +80,7 @@ module _ (s : Session) (xs : List ℕ) (n : ℕ) (g : Ageing s xs n) where
   unfolding aged
   aged_done rows i v e is l h = let k : i ≡ s.count = omega arith in e ∙ ap (aged_to s xs n) k
 
-pub ruleset aged-laws = (aged_start, aged_length, aged_fits, aged_next, aged_done)
+pub ruleset aged_laws = (aged_start, aged_length, aged_fits, aged_next, aged_done)
 
 -- ---- `tally` and `ends`; they do not look at the words of a choice
 
@@ -143,7 +143,7 @@ module _ (s : Session) (c : Call) (number : ℕ) (xs : List ℕ) where
     pub tally_ageing : (n k : ℕ) → c ≡ Advance n → number ≡ 0 → k ≡ n → Ageing s xs k
     tally_ageing n k e z f = rw f (g.ageing n e z)
 
-pub ruleset tally-cases = (tally_refused, tally_arrive, tally_choose, tally_advance, tally_finish, tally_row, tally_ageing)
+pub ruleset tally_cases = (tally_refused, tally_arrive, tally_choose, tally_advance, tally_finish, tally_row, tally_ageing)
 
 module _ (c : Call) (number second : ℕ) where
   pub ends_refused : (number ≡ 0 → ⊥) → false ≡ ends_by c number second
@@ -172,7 +172,7 @@ module _ (c : Call) (number second : ℕ) where
   unfolding ended_by
   ends_finish z e = rw e (sym (eq-eqb number 0 z))
 
-pub ruleset ends-cases = (ends_refused, ends_arrive, ends_choose, ends_advance, ends_finish)
+pub ruleset ends_cases = (ends_refused, ends_arrive, ends_choose, ends_advance, ends_finish)
 
 -- ---- `put_end`
 
@@ -208,7 +208,7 @@ pub end_none : (τ : TaskSet) (s : Session) (over : Bool) (clock : ℕ) (xs d : 
 unfolding end_text
 end_none τ s over clock xs d at e = simp e (wrote_none 128 d at)
 
-pub ruleset end-cases = (end_place, end_job, end_count, end_row, end_put, end_none)
+pub ruleset end_cases = (end_place, end_job, end_count, end_row, end_put, end_none)
 
 -- ---- `note`
 
@@ -261,7 +261,7 @@ module _ (τ : TaskSet) (spans : List ℕ) (s : Session) (xs : List ℕ) (c : Ca
       wrote = rw (k, ← over_is, ← e) w;
     }
 
-pub ruleset note-laws = (note_ending, note_order, note_tallying, note_did)
+pub ruleset note_laws = (note_ending, note_order, note_tallying, note_did)
 
 -- ---- `step`
 
@@ -289,4 +289,4 @@ module _ (τ : TaskSet) (spans : List ℕ) (s : Session) (p : Play) (xs : List �
     pub step_called : (s' : Session) (r : Play) (xs' after : List ℕ) → NoteDid τ s p xs c q s' r xs' out after → StepDid τ s p xs x s' r xs' words words out after
     step_called s' r xs' after d = called c is refl (rw e at d)
 
-pub ruleset step-laws = (step_aside, step_calling, step_called)
+pub ruleset step_laws = (step_aside, step_calling, step_called)

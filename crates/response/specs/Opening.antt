@@ -54,4 +54,4 @@ module _ (l : List ℕ) (number first second : ℕ) (g : Refusal l number first 
   besides_none d at a b =
       simp (ne_eqb (opinion_of l).number 0 (λ q. a (g.number ∙ q)), ne_eqb (opinion_of l).number 3 (λ q. b (g.number ∙ q))) (wrote_none 27392 d at)
 
-pub ruleset besides-cases = (costs_fit, costs_put, cuts_fit, cuts_over, cuts_demand, cuts_put, besides_none)
+pub ruleset besides_cases = (costs_fit, costs_put, cuts_fit, cuts_over, cuts_demand, cuts_put, besides_none)

@@ -2,7 +2,7 @@
 use Rattle.std.specs.Prelude.{ℕ, ◌+◌, ◌-◌, ◌≤◌, ◌<◌, ◌≡◌, cond, List, [], ltb, length, get_or}
 use Rattle.std.proofs.Common.{arith, lt-ltb, le-ltb}
 use Rattle.decimal.specs.Buffer.{Wrote, wrote_none, wrote_more, wrote_within}
-use Rattle.decimal.specs.Joined.{join_to, Joined, joined_start, joined_all, joined-laws}
+use Rattle.decimal.specs.Joined.{join_to, Joined, joined_start, joined_all, joined_laws}
 use Rattle.edf.specs.Demand.{TaskSet}
 use Rattle.lines.specs.Text.{field_text, head_text}
 use Rattle.table.specs.declared.rows.Task.{Task}
@@ -66,7 +66,7 @@ module _ (τ : TaskSet) (spans : List ℕ) (i due x : ℕ) (g : LegibleRow τ sp
 pub job_places : (τ : TaskSet) (spans : List ℕ) (i due x : ℕ) → LegibleRow τ spans i due x → i < 16
 job_places τ spans i due x g = omega (arith, g.known, g.fit.few)
 
-pub ruleset job-laws = (job_after_lem, job_first, job_sum, job_is, job_places)
+pub ruleset job_laws = (job_after_lem, job_first, job_sum, job_is, job_places)
 
 -- ---- `put_waiting`
 
@@ -86,7 +86,7 @@ module _ (τ : TaskSet) (spans : List ℕ) (s : Session) (xs : List ℕ) (g : Le
   unfolding pending_text
   waiting_put d e at p ne w = simp (lt-ltb 0 (job_at s i).left (omega arith)) w
 
-pub ruleset waiting-cases = (waiting_place, waiting_none, waiting_row, waiting_put)
+pub ruleset waiting_cases = (waiting_place, waiting_none, waiting_row, waiting_put)
 
 -- ---- `put_pending`; the code counts the rows
 
@@ -102,4 +102,4 @@ module _ (τ : TaskSet) (spans : List ℕ) (s : Session) (xs : List ℕ) (rows :
   pending_end i e q x h =
       rw is at (wrote_within _ 2048 _ d e p.end q (omega (arith, g.legible.fit.few)) (joined_all (pending_text τ s xs) 128 rows d p.end i e q x h))
 
-pub ruleset pending-laws = (pending_start, pending_legible, pending_end, joined-laws)
+pub ruleset pending_laws = (pending_start, pending_legible, pending_end, joined_laws)

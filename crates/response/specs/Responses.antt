@@ -45,4 +45,4 @@ module _ (τ : TaskSet) (rows i : ℕ) (r : List ℕ) (is : rows ≡ τ.rows) (n
   pub responses_done : rows ≤ i → Responses τ r
   responses_done h = record { places = now.places; each = λ j l. now.each j (omega arith) }
 
-pub ruleset responses-laws = (responses_start, responses_fits, responses_next, responses_done)
+pub ruleset responses_laws = (responses_start, responses_fits, responses_next, responses_done)

@@ -480,4 +480,4 @@ module _ (text l : List ℕ) (start : ℕ) (s₀ : Session) (p₀ : Play) (first
         room = omega (arith, d.wrote.place, d.wrote.short, wrote_length 86 _ out out' p.end r.end (omega (arith, d.wrote.short)) d.wrote);
       }
 
-pub ruleset walk-laws = (walk_fit, walk_start, any_stepping, any_next, any_last, any_ends, end_finishing, walk_done, play_less)
+pub ruleset walk_laws = (walk_fit, walk_start, any_stepping, any_next, any_last, any_ends, end_finishing, walk_done, play_less)

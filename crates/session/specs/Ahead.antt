@@ -35,4 +35,4 @@ module _ (j : Job) (c due : ℕ) where
   unfolding ahead_by
   ahead_row h ne = simp (lt-ltb 0 j.left (omega arith), ne_eqb c idle ne)
 
-pub ruleset ahead-cases = (ahead_none, ahead_idle, ahead_row)
+pub ruleset ahead_cases = (ahead_none, ahead_idle, ahead_row)

@@ -130,4 +130,4 @@ module _ (s : Session) (e : sound s ≡ true) (places : length s.words ≡ 48) w
             ∙ marks_at (tasks s) i (facts_fit s f) (omega (arith, rows_count s f.few places));
       }
 
-pub ruleset marks-cases = (marks_loose, marks_tight, marks_mixed)
+pub ruleset marks_cases = (marks_loose, marks_tight, marks_mixed)

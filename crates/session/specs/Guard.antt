@@ -17,4 +17,4 @@ module _ (s : Session) (o x : Outcome) (b : Bool) (e : b ≡ sound s) where
 pub is_sound : (s : Session) (b : Bool) → b ≡ sound s → b ≡ true → sound s ≡ true
 is_sound s b e t = sym e ∙ t
 
-pub ruleset guarded-laws = (guarded_in, guarded_out, is_sound)
+pub ruleset guarded_laws = (guarded_in, guarded_out, is_sound)

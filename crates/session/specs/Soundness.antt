@@ -90,7 +90,7 @@ module _ (j : Job) (k : Task) (clock most : ℕ) (m : Small k clock) where
                 lt-ltb clock j.due f,
               )
 
-pub ruleset job-cases = (job_next, job_none, job_left, job_far, job_other, job_late, job_rest)
+pub ruleset job_cases = (job_next, job_none, job_left, job_far, job_other, job_late, job_rest)
 
 -- the most budget of a job of task k, whose row is brittle or not
 unfoldable pub most_by : Bool → Task → ℕ
@@ -105,7 +105,7 @@ module _ (m : Bool) (k : Task) where
   unfolding most_by
   most_other e = simp e
 
-pub ruleset most-cases = (most_brittle, most_other)
+pub ruleset most_cases = (most_brittle, most_other)
 
 -- the same of row i of τ
 unfoldable pub sound_in : TaskSet → ℕ → Job → Bool → ℕ → Bool
@@ -140,7 +140,7 @@ pub affords_is : (j : Job) (c due n : ℕ) (b : Bool) → b ≡ ahead_by j c due
 unfolding affords_by
 affords_is j c due n b e f = simp (sym e ∙ f)
 
-pub ruleset affords-cases = (affords_not, affords_is)
+pub ruleset affords_cases = (affords_not, affords_is)
 
 pub affords_row : (s : Session) (c due n i : ℕ) (b : Bool) → DueOf s c due → b ≡ affords_by (job_at s i) c due n → b ≡ affords s c n i
 unfolding affords_by affords
@@ -206,7 +206,7 @@ module _ (s : Session) where
                   le-leb s.span (job_at s s.chosen).left f,
                 ))
 
-pub ruleset choice-cases = (choice_none, choice_long, choice_idle, choice_unknown, choice_over, choice_short, choice_row)
+pub ruleset choice_cases = (choice_none, choice_long, choice_idle, choice_unknown, choice_over, choice_short, choice_row)
 
 -- what the check has found of the rows and the clock
 pub record Checked (s : Session) (m : List Bool) : Type 0 where
@@ -316,4 +316,4 @@ module _ (s : Session) (few : s.count ≤ 16) (k : Kind) (h : KindFor (rows_of s
         check_rest b x p e t f =
             record { sound = f ∙ sym (simp (rows_sound, le-leb s.clock clock_end u, sym e ∙ t)); marks = λ y. marks_are p }
 
-pub ruleset check-cases = (check_many, check_refused, check_kind, check_clock, check_jobs, check_rest)
+pub ruleset check_cases = (check_many, check_refused, check_kind, check_clock, check_jobs, check_rest)

@@ -70,7 +70,7 @@ words_next l w i x e f = put_next (λ i. get_or l i 0) (replicate 48 0) w i x e 
 pub words_done : (l w : List ℕ) (i n : ℕ) → w ≡ words_to l i → i ≤ n → n ≤ i → n ≡ min (length l) 48 → w ≡ words_to l (min (length l) 48)
 words_done l w i n e a b k = let j : i ≡ min (length l) 48 = omega arith in e ∙ ap (words_to l) j
 
-pub ruleset words-laws = (words_start, words_next, words_done)
+pub ruleset words_laws = (words_start, words_next, words_done)
 
 pub fresh_is : (l w : List ℕ) (kind n : ℕ) → w ≡ words_to l (min (length l) 48) → n ≡ length l / 3
     → record { clock = 0; kind = kind; count = n; words = w; jobs = replicate 16 no_job; chosen = 0; span = 0 } ≡ fresh_of l kind
@@ -84,7 +84,7 @@ module _ (s : Session) (l : List ℕ) (v : Verdict) (n : Numbers) (h : Says v (o
   pub start_not : (n.number ≡ 0 → ⊥) → s ≡ start_of s l
   start_not ne = sym (start_same s l (λ z. ne (g.number ∙ h.number ∙ z)))
 
-pub ruleset start-cases = (start_yes, start_not)
+pub ruleset start_cases = (start_yes, start_not)
 
 pub start_says : (l : List ℕ) (j : Judgement) → shown_of j ≡ opinion_of l → Says j.verdict (opinion_of l)
 start_says l j e = says_of j (opinion_of l) e
@@ -93,7 +93,7 @@ pub starts_is : (s r : Session) (l : List ℕ) (j : Judgement) → shown_of j �
     → Starts s l (record { verdict = j.verdict; session = r })
 starts_is s r l j e f = record { verdict = start_says l j e; session = f }
 
-pub ruleset start-laws = (start_says, starts_is)
+pub ruleset start_laws = (start_says, starts_is)
 
 pub starts_none : (s : Session) (l : List ℕ) (r : Started) → s ≡ no_session → Starts s l r → Starts no_session l r
 starts_none s l r e h = rw e at h

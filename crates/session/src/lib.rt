@@ -1,4 +1,5 @@
 // The session: a value that goes in and comes back with each call (docs/SPECIFICATION.md §5).
+#![tactic(auto)]
 
 ghost use Rattle.std.specs.Prelude.{◌≡◌, min, length};
 ghost use Rattle.session.specs.Calls.{refused, shown, three, Shows};

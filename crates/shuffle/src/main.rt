@@ -1,4 +1,6 @@
 // Answers the table and the calls on standard input (docs/SPECIFICATION.md §8).
+#![tactic(auto)]
+
 use libc::{STDIN_FILENO, STDOUT_FILENO};
 
 // A function of its own, so that no proof about `main` has to spell out its zeros.

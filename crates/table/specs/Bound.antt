@@ -16,4 +16,4 @@ product_fits c n h l = record { fits = omega (arith, product_small c n h l) }
 pub total : (f : ℕ → ℕ) (i n m x : ℕ) → x ≡ sum_to f i → x ≤ 1000000000000 * i → i ≤ n → n ≤ i → n ≡ m → m ≤ 16 → Within 16000000000000 (sum_to f m) x
 total f i n m x e b l h k few = record { is = sum_done f i n m x e l h k; small = omega arith }
 
-pub ruleset total-laws = (sum_start, sum_next, total)
+pub ruleset total_laws = (sum_start, sum_next, total)

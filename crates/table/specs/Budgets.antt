@@ -79,7 +79,7 @@ pub firm_found : (a m : Bool) → m ≡ false → true ≡ (a || not m)
 firm_found true m e = refl
 firm_found false m e = simp e
 
-pub ruleset seen-cases = (loose_lost, loose_kept, firm_kept, firm_found)
+pub ruleset seen_cases = (loose_lost, loose_kept, firm_kept, firm_found)
 
 -- ---- the loop over the rows
 
@@ -110,7 +110,7 @@ pub budgets_done : (τ : TaskSet) (b : Budgets) (i n : ℕ) → b ≡ budgets_to
 unfolding budgets_of loose firm values_of marks_of
 budgets_done τ b i n e l h k = let j : i ≡ τ.rows = omega arith in e ∙ ap (budgets_to τ) j
 
-pub ruleset budgets-laws = (budgets_start, budgets_next, budgets_done)
+pub ruleset budgets_laws = (budgets_start, budgets_next, budgets_done)
 
 -- V of row i stands in place i
 pub values_at : (τ : TaskSet) (i : ℕ) → Fit τ → i < τ.rows → get_or (values_of τ) i (pos 0) ≡ budget_of τ i

@@ -69,4 +69,4 @@ module _ (τ : TaskSet) (fit : Fit τ) where
       sums = omega (arith, t.climbs.high);
     }
 
-pub ruleset busy-laws = (busy_start, busy_above, busy_next, busy_more, busy_found, busy_passed)
+pub ruleset busy_laws = (busy_start, busy_above, busy_next, busy_more, busy_found, busy_passed)

@@ -43,10 +43,10 @@ module _ (k : Prepared) (u : Tame k) (t q : ℕ) (w : Within 1000000 (jobs_by_le
   pub owe_is : Within 1000000000000 (k.run * jobs_by_lem k.deadline k.period t) (k.run * q)
   owe_is = record { is = rw w.is; small = product_small k.run q (omega arith) w.small }
 
-pub ruleset owe-laws = (jobs_is, owe_fits, owe_is)
+pub ruleset owe_laws = (jobs_is, owe_fits, owe_is)
 
 pub demand_is : (τ : TaskSet) (i t r : ℕ) (k : Prepared) → Ready τ i k → Within 1000000000000 (k.run * jobs_by_lem k.deadline k.period t) r → Within 1000000000000 (row_demand_lem τ t i) r
 demand_is τ i t r k f w =
     record { is = w.is ∙ rw (f.row.run, f.row.period, f.row.deadline); small = w.small }
 
-pub ruleset demand-laws = (tame_of, demand_is)
+pub ruleset demand_laws = (tame_of, demand_is)

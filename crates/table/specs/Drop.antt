@@ -223,7 +223,7 @@ module _ (k : Prepared) (u : Tame k) where
     pub due_is : (b : ℕ) → ltb (b + (k.period - k.deadline)) (k.period * q) ≡ ltb (b + (k.period - k.deadline)) (k.period * jobs_by_lem k.deadline k.period t)
     due_is b = rw w.is
 
-pub ruleset rise-cases = (rise_scaled, rise_fits, rise_is, lead_fits, lead_is, jobs_fits, due_is)
+pub ruleset rise_cases = (rise_scaled, rise_fits, rise_is, lead_fits, lead_is, jobs_fits, due_is)
 
 module _ (h : Holding) (k : Prepared) (t b x : ℕ) (o : Bool) (e : o ≡ ltb (b + (k.period - k.deadline)) (k.period * jobs_by_lem k.deadline k.period t)) where
   pub holding_on : (y : ℕ) → o ≡ true → Within 4294968400 (rise_by k.run k.period) x → Within 5000000000000000 (x * (k.period - k.deadline)) y
@@ -236,7 +236,7 @@ module _ (h : Holding) (k : Prepared) (t b x : ℕ) (o : Bool) (e : o ≡ ltb (b
   unfolding holding_by
   holding_off p w = rw w.is (sym (simp (sym e ∙ p)))
 
-pub ruleset holding-cases = (holding_on, holding_off)
+pub ruleset holding_cases = (holding_on, holding_off)
 
 -- ---- the loop over the rows
 
@@ -315,7 +315,7 @@ module _ (τ : TaskSet) (t b i : ℕ) (h x : Holding) (k : Prepared) (high : t �
 pub held_done : (τ : TaskSet) (t b i n : ℕ) (h : Holding) → Held τ t b i h → i ≤ n → n ≤ i → n ≡ τ.rows → Held τ t b τ.rows h
 held_done τ t b i n h g l m k = let j : i ≡ τ.rows = omega arith in rw j at g
 
-pub ruleset held-laws = (held_start, held_light, held_next, held_done, tame_of)
+pub ruleset held_laws = (held_start, held_light, held_next, held_done, tame_of)
 
 module _ (t v e w : ℕ) where
   pub drop_much : 1000001 < w → t ≡ drop_by t v e w
@@ -339,7 +339,7 @@ module _ (t v e w : ℕ) where
         drop_full o =
             simp (le-leb w 1000001 l, le-ltb v scale h, le-ltb (e + scale * w + t * (v - scale)) scale (omega (arith, s.is)))
 
-pub ruleset drop-cases = (drop_much, drop_part, drop_little, drop_full)
+pub ruleset drop_cases = (drop_much, drop_part, drop_little, drop_full)
 
 -- t ticks of what the shares are above 1
 module _ (t v : ℕ) (h : t ≤ 1000000) (l : v ≤ 68719494400) where
@@ -352,7 +352,7 @@ module _ (t v : ℕ) (h : t ≤ 1000000) (l : v ≤ 68719494400) where
   pub surplus_is : Within 64424527104000000 (t * (v - scale)) (t * (v - scale))
   surplus_is = record { is = refl; small = surplus_small }
 
-pub ruleset surplus-laws = (surplus_fits, surplus_is)
+pub ruleset surplus_laws = (surplus_fits, surplus_is)
 
 pub drop_at : (τ : TaskSet) (t b c : ℕ) (h : Holding) → Fit τ → Held τ t b τ.rows h → c ≡ drop_by t h.rises h.leads h.held → Drop τ t c
 drop_at τ t b c h fit g q =
@@ -386,4 +386,4 @@ lower_sift τ t h r fit m k w g = record {
 pub lower_high : (τ : TaskSet) (t h a : ℕ) → h ≤ t → t ≤ 1000000 → Lower τ t h a → a ≤ 1000000
 lower_high τ t h a k m g = omega (arith, g.less)
 
-pub ruleset lower-laws = (lower_next, lower_drop, lower_sift, lower_high)
+pub ruleset lower_laws = (lower_next, lower_drop, lower_sift, lower_high)

@@ -43,7 +43,7 @@ pub narrow_some : (r : Range) (middle : ℕ) (f : Found) → (f.at ≡ 0 → ⊥
 unfolding narrow_by
 narrow_some r middle f ne = simp (ne_eqb f.at 0 ne)
 
-pub ruleset narrow-cases = (narrow_none, narrow_some)
+pub ruleset narrow_cases = (narrow_none, narrow_some)
 
 pub narrow_start : (τ : TaskSet) (g : Found) → Exceeds τ 0 1000000 g
     → Narrow τ g (record { floor = 0; at = g.at; demand = g.demand; sums = g.sums })
@@ -117,4 +117,4 @@ first_is τ g r n h = record {
   counted = omega (arith, n.counted, n.low);
 }
 
-pub ruleset narrow-laws = (narrow_start, narrow_middle, narrow_sums, narrow_next, narrow_less, first_is)
+pub ruleset narrow_laws = (narrow_start, narrow_middle, narrow_sums, narrow_next, narrow_less, first_is)

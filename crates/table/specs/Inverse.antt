@@ -86,7 +86,7 @@ module _ (x T : ℕ) (few : x ≤ 2000000) (h : 1 ≤ T) (l : T ≤ 1000000) whe
   quotient_fits m e =
       record { fits = omega (arith, mul-le-mul {n₁ = x} {m₁ = m} {n₂ = 2000000} {m₂ = 4398046511105} few (omega (arith, inverse_small T))) }
 
-pub ruleset quotient-laws = (quotient_is, quotient_fits)
+pub ruleset quotient_laws = (quotient_is, quotient_fits)
 
 -- ---- the loop over the rows
 
@@ -103,7 +103,7 @@ inverses_next τ v i m k e f h =
 pub inverses_done : (τ : TaskSet) (v : List ℕ) (i n : ℕ) → v ≡ inverses_to τ i → i ≤ n → n ≤ i → n ≡ τ.rows → Inverses τ v
 inverses_done τ v i n e l h k = let j : i ≡ τ.rows = omega arith in record { are = e ∙ ap (inverses_to τ) j }
 
-pub ruleset inverses-laws = (inverses_start, inverses_next, inverses_done)
+pub ruleset inverses_laws = (inverses_start, inverses_next, inverses_done)
 
 -- ---- a row as the code reads it
 

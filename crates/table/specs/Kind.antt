@@ -69,7 +69,7 @@ module _ (τ : TaskSet) (fit : Fit τ) (b : Budgets) (e : b ≡ budgets_of τ) w
       pub kind_tight : f.at ≡ 0 → b.firm ≡ false → record { number = 2; brittle = b.brittle } ≡ fit_kind_lem τ
       kind_tight z t = with_marks 2 (kind_heavy z 2 (heavy_kind_lem τ b e false t))
 
-pub ruleset kind-fit-cases = (kind_loose, kind_unsettled, kind_over, kind_mixed, kind_tight)
+pub ruleset kind_fit_cases = (kind_loose, kind_unsettled, kind_over, kind_mixed, kind_tight)
 
 -- ---- and for any slice
 
@@ -99,7 +99,7 @@ module _ (l : List ℕ) (b : Bool) (e : b ≡ bad_length (length l)) (i n : ℕ)
     brittle = λ ne. ap (λ (x : Kind). x.brittle) j;
   }
 
-pub ruleset kind-cases = (kind_length, kind_row, say_fit, kind_judged)
+pub ruleset kind_cases = (kind_length, kind_row, say_fit, kind_judged)
 
 -- ---- what a kind says of the opinion
 

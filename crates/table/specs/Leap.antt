@@ -178,7 +178,7 @@ module _ (k : Prepared) (t : Tame k) where
     pub recurs_is : (b : ℕ) → ltb (k.period * q) b ≡ ltb (k.period * ceil_div r k.period) b
     recurs_is b = rw e
 
-pub ruleset share-cases = (share_some, share_fits, share_is, periods_fits, recurs_is)
+pub ruleset share_cases = (share_some, share_fits, share_is, periods_fits, recurs_is)
 
 module _ (f : Filling) (k : Prepared) (r b x : ℕ) (t : Bool) (e : t ≡ ltb (k.period * ceil_div r k.period) b) where
   pub filling_on : t ≡ true → Within 1000000000000 (share_by k.run k.period) x
@@ -191,7 +191,7 @@ module _ (f : Filling) (k : Prepared) (r b x : ℕ) (t : Bool) (e : t ≡ ltb (k
   unfolding filling_by
   filling_off y w = rw w.is (sym (simp (sym e ∙ y)))
 
-pub ruleset filling-cases = (filling_on, filling_off)
+pub ruleset filling_cases = (filling_on, filling_off)
 
 -- ---- the loop over the rows
 
@@ -253,7 +253,7 @@ module _ (τ : TaskSet) (r b i : ℕ) (f x : Filling) (k : Prepared) (high : r �
 pub filled_done : (τ : TaskSet) (r b i n : ℕ) (f : Filling) → Filled τ r b i f → i ≤ n → n ≤ i → n ≡ τ.rows → Filled τ r b τ.rows f
 filled_done τ r b i n f g l h k = let j : i ≡ τ.rows = omega arith in rw j at g
 
-pub ruleset filled-laws = (filled_start, filled_light, filled_next, filled_done, tame_of)
+pub ruleset filled_laws = (filled_start, filled_light, filled_next, filled_done, tame_of)
 
 module _ (u w : ℕ) where
   pub leap_over : scale < u → 1000001 ≡ leap_by u w
@@ -273,7 +273,7 @@ module _ (u w : ℕ) where
     unfolding leap_by
     leap_part m ne h e = rw e (sym (simp (le-ltb scale u d, ne_eqb w 0 ne, lt-leb scale u h)))
 
-pub ruleset leap-cases = (leap_over, leap_empty, leap_full, leap_part)
+pub ruleset leap_cases = (leap_over, leap_empty, leap_full, leap_part)
 
 pub leap_at_lem : (τ : TaskSet) (r b c : ℕ) (f : Filling) → Fit τ → 1 ≤ r → Filled τ r b τ.rows f → c ≡ leap_by f.shares f.asked → Leap τ r c
 leap_at_lem τ r b c f fit low g e =
@@ -315,4 +315,4 @@ further_sift τ r n m fit l w g = record {
   });
 }
 
-pub ruleset further-laws = (further_next, further_leap, further_sift)
+pub ruleset further_laws = (further_next, further_leap, further_sift)

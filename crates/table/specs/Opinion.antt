@@ -116,7 +116,7 @@ pub bad_rest : (n : ℕ) → (n ≡ 0 → ⊥) → n ≤ 48 → not (eqb (n % 3)
 unfolding bad_length
 bad_rest n h l = simp (ne_eqb n 0 h, le-ltb 48 n l)
 
-pub ruleset length-cases = (bad_none, bad_long, bad_rest)
+pub ruleset length_cases = (bad_none, bad_long, bad_rest)
 
 pub good_length : (n : ℕ) → bad_length n ≡ false → (1 ≤ n) × (n ≤ 48) × (n % 3 ≡ 0)
 unfolding bad_length
@@ -218,7 +218,7 @@ module _ (τ : TaskSet) (b : Budgets) (e : b ≡ budgets_of τ) where
         → shown_of (record { verdict = Tight n; budgets = b.values }) ≡ judged_of τ
     judge_tight n k z h t = rw (k, is_values) (judge_heavy 2 (heavy_kind_lem false t) z h)
 
-pub ruleset judge-cases = (judge_loose, judge_overload, judge_unsettled, judge_mixed, judge_tight)
+pub ruleset judge_cases = (judge_loose, judge_overload, judge_unsettled, judge_mixed, judge_tight)
 
 -- ---- and for any slice
 
@@ -239,4 +239,4 @@ module _ (l : List ℕ) (b : Bool) (e : b ≡ bad_length (length l)) where
     unfolding opinion_of
     say_judged a h j = simp (sym e ∙ no, le-ltb (first_broken_lem (tasks_of l)) (tasks_of l).rows (omega arith)) j
 
-pub ruleset opinion-cases = (say_length, say_row, say_fit, say_judged)
+pub ruleset opinion_cases = (say_length, say_row, say_fit, say_judged)

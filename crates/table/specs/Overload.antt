@@ -61,4 +61,4 @@ found_exceeds τ end y f (over e) m ne =
     record { low = e.low; high = omega (arith, e.high); is = e.is; over = e.over; counted = omega (arith, e.counted) }
 found_exceeds τ end y f (none z c g) m ne = absurd (ne z)
 
-pub ruleset overload-laws = (clear_start, clear_next, clear_falls, clear_over, clear_end)
+pub ruleset overload_laws = (clear_start, clear_next, clear_falls, clear_over, clear_end)

@@ -23,9 +23,9 @@ module _ (k : Prepared) (t : Tame k) (x q : ℕ) (h : x ≤ horizon) (e : q ≡ 
   pub ask_is : Within 1000000000000 (k.run * ceil_div x k.period) (k.run * q)
   ask_is = record { is = rw e; small = product_small k.run q (omega arith) quotient_small }
 
-pub ruleset ask-laws = (ask_fits, ask_is)
+pub ruleset ask_laws = (ask_fits, ask_is)
 
 pub request_is : (τ : TaskSet) (i x r : ℕ) (k : Prepared) → Ready τ i k → Within 1000000000000 (k.run * ceil_div x k.period) r → Within 1000000000000 (row_request_lem τ x i) r
 request_is τ i x r k f w = record { is = w.is ∙ rw (f.row.run, f.row.period); small = w.small }
 
-pub ruleset request-laws = (tame_of, request_is)
+pub ruleset request_laws = (tame_of, request_is)

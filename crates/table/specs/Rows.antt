@@ -83,7 +83,7 @@ module _ (τ : TaskSet) (i : ℕ) (k : Task) (r : Row τ i k) where
         le-leb (τ.T i) horizon (omega arith),
       )
 
-pub ruleset broken-cases = (broken_run, broken_deadline, broken_period, broken_long, broken_not)
+pub ruleset broken_cases = (broken_run, broken_deadline, broken_period, broken_long, broken_not)
 
 -- ---- a table of 1 to 16 rows that keep their rule
 

@@ -57,7 +57,7 @@ module _ (τ : TaskSet) (fit : Fit τ) (a : ℕ) where
       pub rising_more : (y : ℕ) → r < x → Further τ r x y → r < y
       rising_more y h f = omega (arith, f.more)
 
-pub ruleset rising-laws = (rising_start, rising_end, rising_found, rising_next, rising_more)
+pub ruleset rising_laws = (rising_start, rising_end, rising_found, rising_next, rising_more)
 
 -- ---- the loop over the stretches from the last on: there is none past e, nor up to 100,000
 
@@ -95,7 +95,7 @@ module _ (τ : TaskSet) where
     pub past_end : e ≤ 100000 → Settles τ 1000001
     past_end l = none (λ q a b. dite (dec_le q 100000) (λ m. p.near q a m) (λ m. p.far q (omega arith) b))
 
-pub ruleset past-laws = (past_found, past_start, past_at, past_low, past_next, past_end)
+pub ruleset past_laws = (past_found, past_start, past_at, past_low, past_next, past_end)
 
 -- ---- a part of such a stretch
 
@@ -109,7 +109,7 @@ module _ (τ : TaskSet) (r m : ℕ) (high : r ≤ horizon) where
       ((le-div_iff_mul-le {k = m} {x = 1} {y = r} (omega arith)).1 (omega arith))
       part_high (omega (arith, w.is))
 
-pub ruleset part-laws = (part_high, part_found)
+pub ruleset part_laws = (part_high, part_found)
 
 -- ---- what it decides
 

@@ -253,7 +253,7 @@ module _ (v : List ℕ) (a T c : ℕ) (m : Markable v T c) where
   pub marking_done : (w : List ℕ) (x : ℕ) → Marking v w a T c x → 256 ≤ x → Marked v w a T c
   marking_done w x g l = record { long = g.long; are = λ k h. g.done k (omega arith) h }
 
-pub ruleset marking-laws = (marking_start, marking_fits, marking_next, marking_done)
+pub ruleset marking_laws = (marking_start, marking_fits, marking_next, marking_done)
 
 -- ---- the loop over the marks: how long the slack s lasts
 
@@ -285,7 +285,7 @@ module _ (sum k m : ℕ) where
   pub of_two_marked : k ≤ sum → (m ≡ 0 → ⊥) → OfTwo sum k m 2
   of_two_marked h ne = second h (omega arith)
 
-pub ruleset of-two-cases = (of_two_more, of_two_less, of_two_bare, of_two_marked)
+pub ruleset of_two_cases = (of_two_more, of_two_less, of_two_bare, of_two_marked)
 
 -- it has lasted 2 j ticks
 pub record Lasting (w : List ℕ) (s j sum : ℕ) : Type 0 where
@@ -339,7 +339,7 @@ module _ (w : List ℕ) (s : ℕ) (b : Bounded w) (small : s < 256) where
               (λ q. let z : x ≡ 2 * j + 1 = omega arith in rw z (omega (arith, lasting_first)));
         }
 
-pub ruleset lasting-laws = (lasting_start, lasting_found, lasting_end, lasting_fits, lasting_next)
+pub ruleset lasting_laws = (lasting_start, lasting_found, lasting_end, lasting_fits, lasting_next)
 
 -- ---- the loop over the rows
 
@@ -411,7 +411,7 @@ module _ (τ : TaskSet) (fit : Fit τ) (t : ℕ) (back : Bool) where
             omega (arith, z, o.clear k p);
       }
 
-pub ruleset sieving-laws = (sieving_start, sieving_markable, sieving_next, sieving_done, tame_of)
+pub ruleset sieving_laws = (sieving_start, sieving_markable, sieving_next, sieving_done, tame_of)
 
 -- ---- one row's place
 
@@ -441,4 +441,4 @@ module _ (D T t r : ℕ) (b : Bool) where
   pub place_forth : b ≡ false → r ≡ until_by T t → r ≡ place_by D T t b
   place_forth e h = rw e h
 
-pub ruleset place-laws = (place_back, place_forth, jobs_fits, since_room, since_is, periods_fits, until_room, until_is)
+pub ruleset place_laws = (place_back, place_forth, jobs_fits, since_room, since_is, periods_fits, until_room, until_is)

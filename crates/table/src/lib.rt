@@ -1,4 +1,6 @@
 // Task tables: a lent slice of numbers, three to a row (docs/SPECIFICATION.md §2), and the opinion on it (§3).
+#![tactic(auto)]
+
 ghost use Rattle.std.specs.Prelude.{◌≡◌, min};
 ghost use Rattle.table.specs.Rows.{tasks_of, Fit};
 ghost use Rattle.table.specs.Verdict.{bad_length, judged_of, opinion_of};

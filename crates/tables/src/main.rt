@@ -1,6 +1,8 @@
 // Answers on the unmarked tables of docs/SPECIFICATION.md §7 and on others, one a line: number, two values; V of each row
 // of an admitted table; and, for rows that keep their rule, how many sums over the rows the busy length and the search for
 // the first overload take, where a scan of the ticks takes as many as the compared range has, which is printed last.
+#![tactic(auto)]
+
 ghost use Rattle.table.specs.Rows.{tasks_of, Fit};
 
 use libc::STDOUT_FILENO;

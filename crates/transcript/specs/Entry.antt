@@ -47,7 +47,7 @@ module _ (text : List ℕ) (t : State) (before middle : List ℕ) (o : Opened te
         rw (opens_admitted text t o.opens calls_text e, ← none)
         (record { buffer = y.buffer; place = y.place; short = omega (arith, y.place, v.place, v.short, w.place, w.short) })
 
-pub ruleset print-laws = (print_refused, print_begun, print_calls)
+pub ruleset print_laws = (print_refused, print_begun, print_calls)
 
 -- ---- the entry point
 
@@ -57,4 +57,4 @@ unfolding output_of
 entry_printed input text before after k n r d h e f p =
     filled_printed input_limit input n e 1564 22 k r (λ (x : List ℕ). printed_of (lines_of x)) text before after d h f p
 
-pub ruleset entry-cases = (filled_short, read_limit, room_kept, entry_printed)
+pub ruleset entry_cases = (filled_short, read_limit, room_kept, entry_printed)

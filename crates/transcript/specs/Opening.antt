@@ -120,7 +120,7 @@ module _ (text : List ℕ) (t : Rows) (st : Stated text t) (ws : List ℕ) (e : 
     wrote = rw opinion_is x.wrote;
   }
 
-pub ruleset judge-laws = (second_is, judged)
+pub ruleset judge_laws = (second_is, judged)
 
 -- ---- `started`
 
@@ -136,7 +136,7 @@ pub started_is : (j : Judged) (ws : List ℕ) (n : Numbers) (s₀ s : Session) �
     ≡ started_by j
 started_is j ws n s₀ s e h z is = rw (h.number, is, z, e)
 
-pub ruleset started-laws = (started_says, started_is)
+pub ruleset started_laws = (started_says, started_is)
 
 -- ---- `begin`
 
@@ -171,4 +171,4 @@ opening_done text j r before after g e =
 pub opening_starts : (text : List ℕ) (j : Judged) (before after : List ℕ) → Judges text j before after → Startable j
 opening_starts text j before after g = judged_startable text j g.stated g.says
 
-pub ruleset opening-laws = (opening_starts, opening_done)
+pub ruleset opening_laws = (opening_starts, opening_done)

@@ -180,7 +180,7 @@ module _ (clock : ℕ) (p : Play) (w : ℕ) (words before : List ℕ) (ready : R
       le-ltb (length (queue_of words p)) queue_limit (omega (arith, queue_length words p.from p.to ready.order ready.within)) in
       record { did = λ s e. rw f (did_unread p r words before after ready.order s (rw e u) 1) }
 
-pub ruleset word-cases = (word_queued, word_full)
+pub ruleset word_cases = (word_queued, word_full)
 
 -- ---- the calls
 
@@ -201,7 +201,7 @@ module _ (s : Session) (c : Call) (q : List ℕ) (h : sound s ≡ true) (o : Out
   unfolding call_of finish_of
   call_finish e g = g ∙ rw e (sym (simp h))
 
-pub ruleset call-cases = (call_arrive, call_choose, call_advance, call_finish)
+pub ruleset call_cases = (call_arrive, call_choose, call_advance, call_finish)
 
 none_used : (b : Bool) (x y : Outcome) → x.used ≡ 0 → y.used ≡ 0 → (cond b x y).used ≡ 0
 none_used true x y e f = e
@@ -273,7 +273,7 @@ module _ (s : Session) (p : Play) (x : Line) (words before : List ℕ) (ready : 
       → letter ≡ letter_of c → Told (answer_text o.session.clock letter o.answer) o.used p r before after → StepDid o.session r words after
   step_call c l o letter r after e f g k u = rw e (did_call s c p l words before ready g o f letter r after k u)
 
-pub ruleset step-laws = (step_aside, step_call)
+pub ruleset step_laws = (step_aside, step_call)
 
 -- ---- any line that is no call
 
@@ -303,4 +303,4 @@ module _ (clock : ℕ) (p : Play) (x : Line) (words before : List ℕ) (ready : 
     unfolding step_of
     aside_unreadable e = rw e (record { did = λ z s f. did_unread p r words before after ready.order s (rw f u) 0 })
 
-pub ruleset aside-laws = (aside_place, aside_word, aside_call, aside_row, aside_empty, aside_unreadable)
+pub ruleset aside_laws = (aside_place, aside_word, aside_call, aside_row, aside_empty, aside_unreadable)

@@ -188,4 +188,4 @@ module _ (text : List ℕ) (start : ℕ) (s₀ : Session) (p₀ : Play) (first :
         → r.over ≡ true → Whole r.end out'
     play_ends r words' out' e q o = play_over s r words' out' (q.did e s refl) o
 
-pub ruleset play-laws = (play_start, play_less, play_sound, play_ready, play_place, play_ends, play_next, play_done)
+pub ruleset play_laws = (play_start, play_less, play_sound, play_ready, play_place, play_ends, play_next, play_done)

@@ -114,4 +114,4 @@ module _ (l : List ℕ) (t : Rows) (r : Reading l t) where
       stated (rw k.lines (rows_other (row_limit - t.count) n.line rest ne))
       (rw k.lines (after_other (row_limit - t.count) n.line rest ne))
 
-pub ruleset table-laws = (reading_start, reading_next, reading_less, reading_full, reading_end, reading_other)
+pub ruleset table_laws = (reading_start, reading_next, reading_less, reading_full, reading_end, reading_other)

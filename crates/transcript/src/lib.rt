@@ -1,4 +1,6 @@
 // The text that `shuffle` reads and writes, as one function from bytes to bytes (docs/SPECIFICATION.md §8).
+#![tactic(auto)]
+
 ghost use Rattle.std.specs.Prelude.{◌≡◌, ◌≤◌, length};
 ghost use Rattle.decimal.specs.Buffer.{Wrote};
 ghost use Rattle.lines.specs.Lines.{lines_of};

@@ -2,6 +2,8 @@
 // words drawn by 1,664,525 x + 1,013,904,223 modulo 2 to the 32nd. A line of the listing: clock, letter, number, two values.
 // A line of a walk: kind, turns of three or four calls, how many calls were refused, how many with 5, the clock, a sum over
 // all answers.
+#![tactic(auto)]
+
 ghost use Rattle.std.specs.Prelude.{◌<◌};
 
 use libc::STDOUT_FILENO;

@@ -39,4 +39,4 @@ module _ (t d : List ℕ) (at : ℕ) where
         let n : i ≡ length t = omega arith in
         rw n (rw (n, take-length t) at x.text)
 
-pub ruleset putting-laws = (putting_start, putting_next, putting_done)
+pub ruleset putting_laws = (putting_start, putting_next, putting_done)

@@ -39,7 +39,7 @@ module _ (n at q : ℕ) (d e : List ℕ) where
   unfolding budget_text
   budget_some ne w = simp (ne_eqb n 0 ne, append-nil) (wrote_within 21 26 _ d e at q (omega arith) w)
 
-pub ruleset budget-cases = (budget_none, budget_some)
+pub ruleset budget_cases = (budget_none, budget_some)
 
 -- ---- `put_candidate`
 
@@ -118,7 +118,7 @@ module _ (jobs : List Held) (count : ℕ) (d : List ℕ) (at : ℕ) where
         let number : length (take count jobs) ≡ count = length-take-le count jobs (omega arith) in
         wrote_as (omega arith) (rw (number, all)) (wrote_then (omega arith) w x.text)
 
-pub ruleset listed-laws = (listed_start, listed_next, listed_all)
+pub ruleset listed_laws = (listed_start, listed_next, listed_all)
 
 -- ---- `put_brittle`
 
@@ -130,7 +130,7 @@ module _ (b : Optional) (d : List ℕ) (at : ℕ) where
       → Wrote 52 (rest p.brittle_to) e f q r → Wrote 90 (brittle_text b) d f at r
   brittle_some n e f q r room s v w = rw s (wrote_as (omega arith) (simp append_assoc) (wrote_then (omega arith) v w))
 
-pub ruleset brittle-cases = (brittle_none, brittle_some)
+pub ruleset brittle_cases = (brittle_none, brittle_some)
 
 -- ---- `put_chosen`
 
@@ -143,7 +143,7 @@ module _ (c : ℕ) (d e : List ℕ) (at q : ℕ) where
   unfolding chosen_text
   chosen_row_lem s w = simp (ne_eqb c 16 s, append_assoc) w
 
-pub ruleset chosen-cases = (chosen_idle_lem, chosen_row_lem)
+pub ruleset chosen_cases = (chosen_idle_lem, chosen_row_lem)
 
 -- ---- `put_decided`
 
@@ -155,7 +155,7 @@ module _ (o : Optional) (d e : List ℕ) (at q : ℕ) where
       → Wrote 1 (10 ∷ []) e f q r → Wrote 31 (rest (decided_text o)) d f at r
   decided_some n f r room s v w = rw s (wrote_as (omega arith) (simp append_assoc) (wrote_then (omega arith) v w))
 
-pub ruleset decided-cases = (decided_none, decided_some)
+pub ruleset decided_cases = (decided_none, decided_some)
 
 -- ---- `put_choice`
 

@@ -1,4 +1,6 @@
 // The text of an explanation: what it holds, and how it is written into a lent buffer (docs/EXPLANATIONS.md).
+#![tactic(auto)]
+
 ghost use Rattle.std.specs.Prelude.{◌≡◌};
 ghost use Rattle.wording.specs.Explanation.{no_parts};
 

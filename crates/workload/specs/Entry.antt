@@ -44,7 +44,7 @@ module _ (seed : ℕ) (t : Rows) (before middle : List ℕ) (h : trial_room ≤ 
       (wrote_more (65 * row_count seed) (65 * (trial_lines - row_count seed)) (input_text (row_lines (rows_of_seed seed))) (input_text (call_lines seed))
       before middle after 0 t.at r fits d.wrote w))
 
-pub ruleset trial-laws = (trial_fresh, trial_room_lem, trial_written)
+pub ruleset trial_laws = (trial_fresh, trial_room_lem, trial_written)
 
 -- ---- the entry points
 
@@ -55,7 +55,7 @@ pub generate_done : (seed : ℕ) (before after : List ℕ) (r : ℕ) → 32500 �
     → Filled trial_room (text_of seed) before after r
 generate_done seed before after r h w = printed h w
 
-pub ruleset generate-cases = (generate_short, generate_done)
+pub ruleset generate_cases = (generate_short, generate_done)
 
 pub load_seed : (input before after : List ℕ) (n : Number) (seed r : ℕ) → n ≡ seed_of input → n ≡ Of seed → Filled trial_room (text_of seed) before after r
     → Filled trial_room (load_of input) before after r
@@ -67,4 +67,4 @@ unfolding load_of
 load_none input before n e f =
     rw (sym e ∙ f) (dite (dec_lt (length before) trial_room) (λ l. too_short l refl refl) (λ l. printed (omega arith) (wrote_none trial_room before 0)))
 
-pub ruleset load-cases = (load_seed, load_none)
+pub ruleset load_cases = (load_seed, load_none)

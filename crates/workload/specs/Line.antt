@@ -37,7 +37,7 @@ module _ (s : Session) where
     unfolding ready_row_lem
     ready_none l e = first_none (may_arrive s) i n s.count p l e
 
-pub ruleset ready-laws = (ready_start, ready_next, ready_found, ready_none)
+pub ruleset ready_laws = (ready_start, ready_next, ready_found, ready_none)
 
 -- ---- `until_next`
 
@@ -65,7 +65,7 @@ module _ (s : Session) where
       let j : i ≡ s.count = omega arith in
       record { is = e ∙ ap (until_to s) j; small = omega (arith, until_upto i) }
 
-pub ruleset until-laws = (until_start, until_turn, until_done)
+pub ruleset until_laws = (until_start, until_turn, until_done)
 
 -- ---- `line_by`
 
@@ -91,4 +91,4 @@ module _ (s : Session) (number : ℕ) (given : Bool) (row n : ℕ) (e : row ≡ 
     unfolding line_by_lem
     says_word w h f g = rw g (sym (simp (none_ready, le-ltb 0 s.span h, f)))
 
-pub ruleset line-cases = (says_arrive, says_advance, says_choose, says_word)
+pub ruleset line_cases = (says_arrive, says_advance, says_choose, says_word)

@@ -124,7 +124,7 @@ module _ (p : Progress) (w : List ℕ) (y : Line) (h : Ready p w) where
   unfolding onward step_of
   aside_unreadable e = stays (λ s. rw e)
 
-pub ruleset aside-cases = (aside_as, aside_call, aside_row, aside_empty, aside_unreadable)
+pub ruleset aside_cases = (aside_as, aside_call, aside_row, aside_empty, aside_unreadable)
 
 -- ---- the loop
 
@@ -222,4 +222,4 @@ module _ (seed start : ℕ) (first : List ℕ) (s : Session) (p : Progress) (wor
       owing_done _ _ _ _ _ _ now.owing (65 * (trial_lines - row_count seed)) none
       (omega (arith, now.owing.total, ap length none, now.most, now.lines))
 
-pub ruleset play-laws = (play_start, play_rows, play_sound, play_ready, play_room, play_next, play_done)
+pub ruleset play_laws = (play_start, play_rows, play_sound, play_ready, play_room, play_next, play_done)

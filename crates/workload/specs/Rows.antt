@@ -127,4 +127,4 @@ module _ (seed n : ℕ) (before : List ℕ) (t : Rows) (d : ℕ) (out : List ℕ
         wrote = rw last at now.wrote;
       }
 
-pub ruleset tabling-laws = (tabling_start, tabling_less, tabling_row, tabling_place, tabling_room, tabling_next, tabling_done)
+pub ruleset tabling_laws = (tabling_start, tabling_less, tabling_row, tabling_place, tabling_room, tabling_next, tabling_done)

@@ -49,7 +49,7 @@ module _ (input : List ℕ) (e : ℕ) (h : Place 10 input e) where
   seed_one r k l f =
       f ∙ sym (ap seed_in (parted_at 10 input e h k) ∙ ap (λ (m : List ℕ). seed_in (take e input ∷ parted 10 m)) (drop_of_length-le input l))
 
-pub ruleset seed-cases = (seed_unended, seed_more, seed_one)
+pub ruleset seed_cases = (seed_unended, seed_more, seed_one)
 
 -- ---- a seed is its digits and a newline
 

@@ -1,4 +1,6 @@
 // A repeatable heavy load: from a seed to a text of 500 lines for `shuffle` (docs/WORKLOAD.md).
+#![tactic(auto)]
+
 ghost use Rattle.std.specs.Prelude.{◌≤◌, length};
 ghost use Rattle.decimal.specs.Buffer.{Wrote};
 ghost use Rattle.report.specs.Whole.{Filled};

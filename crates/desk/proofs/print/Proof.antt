@@ -2,7 +2,7 @@
 use Prim.Native.Nat.{◌-◌}
 use lib.ListN.{length}
 use borrow.Author.Rules.{rules}
-use Rattle.desk.specs.Entry.{Reading, reading-laws}
+use Rattle.desk.specs.Entry.{Reading, reading_laws}
 use Rattle.desk.proofs.print.Statement.{statement}
 use Rattle.desk.proofs.print.Tie as tie
 
@@ -13,34 +13,34 @@ abbrev decreases-loop : tie.decreases-loop
 decreases-loop text out₀ words₀ p₀ at₀ out words p at = length text - at
 
 loop-holds : tie.Need-loop-init invariant-loop decreases-loop
-loop-holds c = search (rules, reading-laws)
+loop-holds c = search (rules, reading_laws)
 
 next-line-requires : tie.Need-next-line-requires invariant-loop decreases-loop
-next-line-requires c κs = search (rules, reading-laws)
+next-line-requires c κs = search (rules, reading_laws)
 
 slice-aggregate-step : tie.Need-slice-aggregate-step invariant-loop decreases-loop
-slice-aggregate-step c = search (rules, reading-laws)
+slice-aggregate-step c = search (rules, reading_laws)
 
 step-requires : tie.Need-step-requires invariant-loop decreases-loop
-step-requires c κs = search (rules, reading-laws)
+step-requires c κs = search (rules, reading_laws)
 
 loop-less : tie.Need-loop-smaller invariant-loop decreases-loop
-loop-less c = search (rules, reading-laws)
+loop-less c = search (rules, reading_laws)
 
 loop-again : tie.Need-loop-preserved invariant-loop decreases-loop
-loop-again c = search (rules, reading-laws)
+loop-again c = search (rules, reading_laws)
 
 slice-aggregate-finish : tie.Need-slice-aggregate-finish invariant-loop decreases-loop
-slice-aggregate-finish c = search (rules, reading-laws)
+slice-aggregate-finish c = search (rules, reading_laws)
 
 finish-requires : tie.Need-finish-requires invariant-loop decreases-loop
-finish-requires c κs = search (rules, reading-laws)
+finish-requires c κs = search (rules, reading_laws)
 
 same_length : tie.Need-same-length invariant-loop decreases-loop
-same_length c = search (rules, reading-laws)
+same_length c = search (rules, reading_laws)
 
 returns : tie.Need-returns invariant-loop decreases-loop
-returns c = search (rules, reading-laws)
+returns c = search (rules, reading_laws)
 
 pub print-spec : {M : Type 1} → statement M
 print-spec =

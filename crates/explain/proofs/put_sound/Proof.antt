@@ -1,6 +1,6 @@
 -- `explain::put_sound` meets its contract. Assumes nothing.
 use borrow.Author.Rules.{rules}
-use Rattle.explain.specs.Entry.{text-laws}
+use Rattle.explain.specs.Entry.{text_laws}
 use Rattle.explain.proofs.put_sound.Statement.{statement}
 use Rattle.explain.proofs.put_sound.Tie as tie
 
@@ -11,13 +11,13 @@ account-of-requires : tie.Need-account-of-requires
 account-of-requires c κs = search rules
 
 put-text-requires : tie.Need-put-text-requires
-put-text-requires c κs = search (rules, text-laws)
+put-text-requires c κs = search (rules, text_laws)
 
 same_length : tie.Need-same-length
 same_length c = search rules
 
 returns : tie.Need-returns
-returns c = search (rules, text-laws)
+returns c = search (rules, text_laws)
 
 pub put-sound-spec : {M : Type 1} → statement M
 put-sound-spec =

@@ -4,7 +4,7 @@ use mathlib.Core.Path.{◌≡◌, sym}
 use borrow.Author.Tests.{not-true}
 use lib.ListN.{length}
 use Prim.Native.Nat.{◌-◌, ◌≤◌}
-use Rattle.narration.specs.Telling.{Going, caller-laws}
+use Rattle.narration.specs.Telling.{Going, caller_laws}
 use borrow.Author.Rules.{rules}
 use Rattle.explained.proofs.answer.Statement.{statement}
 use Rattle.explained.proofs.answer.Tie as tie
@@ -28,7 +28,7 @@ write-all-requires : tie.Need-write-all-requires invariant-loop decreases-loop
 write-all-requires c κs = search rules
 
 loop-holds : tie.Need-loop-init invariant-loop decreases-loop
-loop-holds c = search (rules, caller-laws)
+loop-holds c = search (rules, caller_laws)
 
 more-requires : tie.Need-more-requires invariant-loop decreases-loop
 more-requires c κs = search rules
@@ -43,7 +43,7 @@ write-all-requires-2 : tie.Need-write-all-requires-2 invariant-loop decreases-lo
 write-all-requires-2 c κs = search rules
 
 loop-less : tie.Need-loop-smaller invariant-loop decreases-loop
-loop-less c = search (rules, not-true, caller-laws)
+loop-less c = search (rules, not-true, caller_laws)
 
 loop-again : tie.Need-loop-preserved invariant-loop decreases-loop
 loop-again c = search rules

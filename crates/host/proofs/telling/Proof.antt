@@ -1,6 +1,6 @@
 -- `telling` meets its contract. Assumes nothing.
 use borrow.Author.Rules.{rules}
-use Rattle.host.specs.Explain.{telling-cases}
+use Rattle.host.specs.Explain.{telling_cases}
 use Rattle.host.proofs.telling.Statement.{statement}
 use Rattle.host.proofs.telling.Tie as tie
 
@@ -17,16 +17,16 @@ enum-known-t-3 : tie.Need-enum-known-t-3
 enum-known-t-3 c = search rules
 
 returns : tie.Need-returns
-returns c = search (rules, telling-cases)
+returns c = search (rules, telling_cases)
 
 returns-2 : tie.Need-returns-2
-returns-2 c = search (rules, telling-cases)
+returns-2 c = search (rules, telling_cases)
 
 returns-3 : tie.Need-returns-3
-returns-3 c = search (rules, telling-cases)
+returns-3 c = search (rules, telling_cases)
 
 returns-4 : tie.Need-returns-4
-returns-4 c = search (rules, telling-cases)
+returns-4 c = search (rules, telling_cases)
 
 pub telling-spec : {M : Type 1} → statement M
 telling-spec =

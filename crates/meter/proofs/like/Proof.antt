@@ -1,5 +1,5 @@
 -- `meter::like` meets its contract. Assumes nothing.
-use Rattle.meter.specs.Code.{like-laws}
+use Rattle.meter.specs.Code.{like_laws}
 use borrow.Author.Rules.{rules}
 use Rattle.meter.proofs.like.Statement.{statement}
 use Rattle.meter.proofs.like.Tie as tie
@@ -20,7 +20,7 @@ element-copy-out-d : tie.Need-element-copy-out-d
 element-copy-out-d c = search rules
 
 moved-requires : tie.Need-moved-requires
-moved-requires c κs = search (rules, like-laws)
+moved-requires c κs = search (rules, like_laws)
 
 mul-counts : tie.Need-overflow-mul-counts
 mul-counts c = search rules
@@ -32,7 +32,7 @@ near-requires : tie.Need-near-requires
 near-requires c κs = search rules
 
 returns : tie.Need-returns
-returns c = search (rules, like-laws)
+returns c = search (rules, like_laws)
 
 pub like-spec : {M : Type 1} → statement M
 like-spec =

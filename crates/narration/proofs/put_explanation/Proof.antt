@@ -7,7 +7,7 @@ use Rattle.lines.specs.contracts.read.Call.{the_type as call-type}
 use Rattle.lines.specs.declared.read.Call.{Call}
 use Rattle.lines.specs.declared.read.Call.TheVariants.{Choose}
 use Rattle.transcript.proofs.NotCall.{not_call}
-use Rattle.narration.specs.Telling.{put-cases}
+use Rattle.narration.specs.Telling.{put_cases}
 use borrow.Author.Rules.{rules}
 use Rattle.narration.proofs.put_explanation.Statement.{statement}
 use Rattle.narration.proofs.put_explanation.Tie as tie
@@ -20,16 +20,16 @@ enum-known-line : tie.Need-enum-known-line
 enum-known-line c = search rules
 
 returns : tie.Need-returns
-returns c = search (rules, put-cases, not_call)
+returns c = search (rules, put_cases, not_call)
 
 enum_told : tie.Need-enum-told
 enum_told c = search rules
 
 returns-2 : tie.Need-returns-2
-returns-2 c = search (rules, put-cases, not-choose)
+returns-2 c = search (rules, put_cases, not-choose)
 
 returns-3 : tie.Need-returns-3
-returns-3 c = search (rules, put-cases)
+returns-3 c = search (rules, put_cases)
 
 put-sound-requires : tie.Need-put-sound-requires
 put-sound-requires c κs = search rules
@@ -38,7 +38,7 @@ same_length : tie.Need-same-length
 same_length c = search rules
 
 returns-4 : tie.Need-returns-4
-returns-4 c = search (rules, put-cases)
+returns-4 c = search (rules, put_cases)
 
 pub put-explanation-spec : {M : Type 1} → statement M
 put-explanation-spec =

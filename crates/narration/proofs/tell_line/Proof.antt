@@ -1,16 +1,16 @@
 -- `narration::tell_line` meets its contract. Assumes nothing.
 use native.Mathlib.Omega.{arith}
 use Rattle.transcript.specs.Play.{part_is}
-use Rattle.narration.specs.Telling.{line_told, line-laws}
+use Rattle.narration.specs.Telling.{line_told, line_laws}
 use borrow.Author.Rules.{rules}
 use Rattle.narration.proofs.tell_line.Statement.{statement}
 use Rattle.narration.proofs.tell_line.Tie as tie
 
 next-line-requires : tie.Need-next-line-requires
-next-line-requires c κs = search (rules, line-laws)
+next-line-requires c κs = search (rules, line_laws)
 
 step-requires : tie.Need-step-requires
-step-requires c κs = search (rules, line-laws)
+step-requires c κs = search (rules, line_laws)
 
 mul-put-explanation : tie.Need-overflow-mul-put-explanation
 mul-put-explanation c =
@@ -21,16 +21,16 @@ mul-put-explanation c =
     record { fits = omega (arith, reached.order, reached.queued, reached.place, reached.limit) }
 
 sub-put-explanation : tie.Need-overflow-sub-put-explanation
-sub-put-explanation c = search (rules, line-laws)
+sub-put-explanation c = search (rules, line_laws)
 
 part-put-explanation-start : tie.Need-slice-bounds-put-explanation-start
-part-put-explanation-start c = search (rules, line-laws)
+part-put-explanation-start c = search (rules, line_laws)
 
 part-put-explanation-end : tie.Need-slice-bounds-put-explanation-end
-part-put-explanation-end c = search (rules, line-laws)
+part-put-explanation-end c = search (rules, line_laws)
 
 put-explanation-requires : tie.Need-put-explanation-requires
-put-explanation-requires c κs = search (rules, line-laws)
+put-explanation-requires c κs = search (rules, line_laws)
 
 closed-requires : tie.Need-closed-requires
 closed-requires c κs = search rules

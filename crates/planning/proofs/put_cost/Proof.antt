@@ -1,5 +1,5 @@
 -- `planning::put_cost` meets its contract. Assumes nothing.
-use Rattle.planning.specs.Put.{put-cost-cases}
+use Rattle.planning.specs.Put.{put_cost_cases}
 use borrow.Author.Rules.{rules}
 use Rattle.planning.proofs.put_cost.Statement.{statement}
 use Rattle.planning.proofs.put_cost.Tie as tie
@@ -23,10 +23,10 @@ same_length : tie.Need-same-length
 same_length c = search rules
 
 returns : tie.Need-returns
-returns c = search (rules, put-cost-cases)
+returns c = search (rules, put_cost_cases)
 
 returns-2 : tie.Need-returns-2
-returns-2 c = search (rules, put-cost-cases)
+returns-2 c = search (rules, put_cost_cases)
 
 pub put-cost-spec : {M : Type 1} → statement M
 put-cost-spec =

@@ -1,5 +1,5 @@
 -- `reader::read` meets its contract. Assumes nothing.
-use Rattle.reader.specs.Answer.{read-cases, count_few}
+use Rattle.reader.specs.Answer.{read_cases, count_few}
 use borrow.Author.Rules.{rules}
 use Rattle.reader.proofs.read.Statement.{statement}
 use Rattle.reader.proofs.read.Tie as tie
@@ -11,7 +11,7 @@ not-found-requires : tie.Need-not-found-requires
 not-found-requires c κs = search rules
 
 returns : tie.Need-returns
-returns c = search (rules, read-cases)
+returns c = search (rules, read_cases)
 
 skip-requires : tie.Need-skip-requires
 skip-requires c κs = search rules
@@ -23,13 +23,13 @@ tells-requires : tie.Need-tells-requires
 tells-requires c κs = search (rules, count_few)
 
 returns-2 : tie.Need-returns-2
-returns-2 c = search (rules, read-cases)
+returns-2 c = search (rules, read_cases)
 
 not-found-requires-2 : tie.Need-not-found-requires-2
 not-found-requires-2 c κs = search rules
 
 returns-3 : tie.Need-returns-3
-returns-3 c = search (rules, read-cases)
+returns-3 c = search (rules, read_cases)
 
 pub read_spec : {M : Type 1} → statement M
 read_spec =

@@ -1,6 +1,6 @@
 -- `report::put_opinion` meets its contract. Assumes nothing.
 use borrow.Author.Rules.{rules}
-use Rattle.report.specs.Put.{opinion-cases}
+use Rattle.report.specs.Put.{opinion_cases}
 use Rattle.report.proofs.put_opinion.Statement.{statement}
 use Rattle.report.proofs.put_opinion.Tie as tie
 
@@ -17,13 +17,13 @@ same_length : tie.Need-same-length
 same_length c = search rules
 
 returns : tie.Need-returns
-returns c = search (rules, opinion-cases)
+returns c = search (rules, opinion_cases)
 
 same-length-2 : tie.Need-same-length-2
 same-length-2 c = search rules
 
 returns-2 : tie.Need-returns-2
-returns-2 c = search (rules, opinion-cases)
+returns-2 c = search (rules, opinion_cases)
 
 pub put-opinion-spec : {M : Type 1} → statement M
 put-opinion-spec =

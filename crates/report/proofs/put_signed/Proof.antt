@@ -1,6 +1,6 @@
 -- `report::put_signed` meets its contract. Assumes nothing.
 use borrow.Author.Rules.{rules}
-use Rattle.report.specs.Put.{signed-cases}
+use Rattle.report.specs.Put.{signed_cases}
 use Rattle.report.proofs.put_signed.Statement.{statement}
 use Rattle.report.proofs.put_signed.Tie as tie
 
@@ -20,7 +20,7 @@ same_length : tie.Need-same-length
 same_length c = search rules
 
 returns : tie.Need-returns
-returns c = search (rules, signed-cases)
+returns c = search (rules, signed_cases)
 
 magnitude-requires-2 : tie.Need-magnitude-requires-2
 magnitude-requires-2 c κs = search rules
@@ -32,7 +32,7 @@ same-length-2 : tie.Need-same-length-2
 same-length-2 c = search rules
 
 returns-2 : tie.Need-returns-2
-returns-2 c = search (rules, signed-cases)
+returns-2 c = search (rules, signed_cases)
 
 pub put-signed-spec : {M : Type 1} → statement M
 put-signed-spec =

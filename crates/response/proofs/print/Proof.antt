@@ -2,7 +2,7 @@
 use mathlib.Core.Path.{sym}
 use native.Mathlib.Omega.{arith}
 use lib.Seq.{length-take-le}
-use Rattle.response.specs.Entry.{print-laws}
+use Rattle.response.specs.Entry.{print_laws}
 use borrow.Author.Rules.{rules}
 use Rattle.response.proofs.print.Statement.{statement}
 use Rattle.response.proofs.print.Tie as tie
@@ -23,13 +23,13 @@ slice-aggregate-put-besides : tie.Need-slice-aggregate-put-besides
 slice-aggregate-put-besides c = sym (length-take-le _ _ (omega arith))
 
 put-besides-requires : tie.Need-put-besides-requires
-put-besides-requires c κs = search (rules, print-laws)
+put-besides-requires c κs = search (rules, print_laws)
 
 same_length : tie.Need-same-length
 same_length c = search rules
 
 returns : tie.Need-returns
-returns c = search (rules, print-laws)
+returns c = search (rules, print_laws)
 
 put-calls-requires : tie.Need-put-calls-requires
 put-calls-requires c κs = search rules
@@ -38,7 +38,7 @@ same-length-2 : tie.Need-same-length-2
 same-length-2 c = search rules
 
 returns-2 : tie.Need-returns-2
-returns-2 c = search (rules, print-laws)
+returns-2 c = search (rules, print_laws)
 
 pub print-spec : {M : Type 1} → statement M
 print-spec =

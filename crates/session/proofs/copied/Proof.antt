@@ -2,7 +2,7 @@
 use Prim.Native.Nat.{◌≤◌, ◌-◌}
 use mathlib.Core.Path.{◌≡◌}
 use borrow.Author.Rules.{rules}
-use Rattle.session.specs.Start.{words_to, words-laws}
+use Rattle.session.specs.Start.{words_to, words_laws}
 use Rattle.session.proofs.copied.Statement.{statement}
 use Rattle.session.proofs.copied.Tie as tie
 
@@ -16,7 +16,7 @@ least-requires : tie.Need-least-requires invariant-loop decreases-loop
 least-requires c κs = search rules
 
 loop-holds : tie.Need-loop-init invariant-loop decreases-loop
-loop-holds c = search (rules, words-laws)
+loop-holds c = search (rules, words_laws)
 
 mul-copy : tie.Need-overflow-mul-copy invariant-loop decreases-loop
 mul-copy c = search rules
@@ -37,10 +37,10 @@ loop-less : tie.Need-loop-smaller invariant-loop decreases-loop
 loop-less c = search rules
 
 loop-again : tie.Need-loop-preserved invariant-loop decreases-loop
-loop-again c = search (rules, words-laws)
+loop-again c = search (rules, words_laws)
 
 returns : tie.Need-returns invariant-loop decreases-loop
-returns c = search (rules, words-laws)
+returns c = search (rules, words_laws)
 
 pub copied-spec : {M : Type 1} → statement M
 copied-spec =

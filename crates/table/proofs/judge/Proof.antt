@@ -1,7 +1,7 @@
 -- `table::judge` meets its contract. Assumes nothing.
 use borrow.Author.Rules.{rules}
 use Rattle.table.specs.Overload.{found_exceeds}
-use Rattle.table.specs.Opinion.{judge-cases}
+use Rattle.table.specs.Opinion.{judge_cases}
 use Rattle.table.proofs.judge.Statement.{statement}
 use Rattle.table.proofs.judge.Tie as tie
 
@@ -15,7 +15,7 @@ all-budgets-requires : tie.Need-all-budgets-requires
 all-budgets-requires c κs = search rules
 
 returns : tie.Need-returns
-returns c = search (rules, judge-cases)
+returns c = search (rules, judge_cases)
 
 busy-length-requires : tie.Need-busy-length-requires
 busy-length-requires c κs = search rules
@@ -33,19 +33,19 @@ refused-requires : tie.Need-refused-requires
 refused-requires c κs = search rules
 
 returns-2 : tie.Need-returns-2
-returns-2 c = search (rules, judge-cases)
+returns-2 c = search (rules, judge_cases)
 
 refused-requires-2 : tie.Need-refused-requires-2
 refused-requires-2 c κs = search rules
 
 returns-3 : tie.Need-returns-3
-returns-3 c = search (rules, judge-cases)
+returns-3 c = search (rules, judge_cases)
 
 returns-4 : tie.Need-returns-4
-returns-4 c = search (rules, judge-cases)
+returns-4 c = search (rules, judge_cases)
 
 returns-5 : tie.Need-returns-5
-returns-5 c = search (rules, judge-cases)
+returns-5 c = search (rules, judge_cases)
 
 pub judge-spec : {M : Type 1} → statement M
 judge-spec =

@@ -1,6 +1,6 @@
 -- `table::opinion` meets its contract. Assumes nothing.
 use borrow.Author.Rules.{rules}
-use Rattle.table.specs.Opinion.{opinion-cases}
+use Rattle.table.specs.Opinion.{opinion_cases}
 use Rattle.table.proofs.opinion.Statement.{statement}
 use Rattle.table.proofs.opinion.Tie as tie
 
@@ -11,7 +11,7 @@ refused-requires : tie.Need-refused-requires
 refused-requires c κs = search rules
 
 returns : tie.Need-returns
-returns c = search (rules, opinion-cases)
+returns c = search (rules, opinion_cases)
 
 first-broken-requires : tie.Need-first-broken-requires
 first-broken-requires c κs = search rules
@@ -23,13 +23,13 @@ refused-requires-2 : tie.Need-refused-requires-2
 refused-requires-2 c κs = search rules
 
 returns-2 : tie.Need-returns-2
-returns-2 c = search (rules, opinion-cases)
+returns-2 c = search (rules, opinion_cases)
 
 judge-requires : tie.Need-judge-requires
-judge-requires c κs = search (rules, opinion-cases)
+judge-requires c κs = search (rules, opinion_cases)
 
 returns-3 : tie.Need-returns-3
-returns-3 c = search (rules, opinion-cases)
+returns-3 c = search (rules, opinion_cases)
 
 pub opinion-spec : {M : Type 1} → statement M
 opinion-spec =

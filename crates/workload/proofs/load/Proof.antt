@@ -1,6 +1,6 @@
 -- `workload::load` meets its contract. Assumes nothing.
 use Rattle.std.proofs.Common.{rules}
-use Rattle.workload.specs.Entry.{load-cases}
+use Rattle.workload.specs.Entry.{load_cases}
 use Rattle.workload.proofs.load.Statement.{statement}
 use Rattle.workload.proofs.load.Tie as tie
 
@@ -20,10 +20,10 @@ same_length : tie.Need-same-length
 same_length c = search rules
 
 returns : tie.Need-returns
-returns c = search (rules, load-cases)
+returns c = search (rules, load_cases)
 
 returns-2 : tie.Need-returns-2
-returns-2 c = search (rules, load-cases)
+returns-2 c = search (rules, load_cases)
 
 pub load_spec : {M : Type 1} → statement M
 load_spec =

@@ -9,8 +9,8 @@ use Rattle.bounded.specs.Sum.{sum_to, sum_start}
 use Rattle.table.specs.Inverse.{tame_of}
 use Rattle.session.specs.Reading.{rows_of}
 use Rattle.session.specs.Facts.{facts_of}
-use Rattle.calls.specs.Code.{places, place_fits, facts_rows, arrive-cases}
-use Rattle.calls.specs.Code.{asked_of, Asking, asked-laws, asked_done, asked_fit, asked_row, asked_left, asked_clock, asked_run, asked_deadline, asked_period, asked_next, asked_small, asked_most, asked_few}
+use Rattle.calls.specs.Code.{places, place_fits, facts_rows, arrive_cases}
+use Rattle.calls.specs.Code.{asked_of, Asking, asked_laws, asked_done, asked_fit, asked_row, asked_left, asked_clock, asked_run, asked_deadline, asked_period, asked_next, asked_small, asked_most, asked_few}
 use Rattle.calls.proofs.arrive.arrive_marked.Statement.{statement}
 use Rattle.calls.proofs.arrive.arrive_marked.Tie as tie
 
@@ -25,7 +25,7 @@ refuse-requires : tie.Need-refuse-requires invariant-loop decreases-loop
 refuse-requires c κs = search rules
 
 returns : tie.Need-returns invariant-loop decreases-loop
-returns c = search (rules, arrive-cases)
+returns c = search (rules, arrive_cases)
 
 mul-old : tie.Need-overflow-mul-old invariant-loop decreases-loop
 mul-old c = search (rules, places)
@@ -37,7 +37,7 @@ refuse-requires-2 : tie.Need-refuse-requires-2 invariant-loop decreases-loop
 refuse-requires-2 c κs = search rules
 
 returns-2 : tie.Need-returns-2 invariant-loop decreases-loop
-returns-2 c = search (rules, arrive-cases)
+returns-2 c = search (rules, arrive_cases)
 
 mul-e : tie.Need-overflow-mul-e invariant-loop decreases-loop
 mul-e c = let a = c.before.before.before.before.before in let f = facts_of _ a.requires.0 in record { fits = omega (arith, f.few) }
@@ -94,16 +94,16 @@ prepare-alone-requires : tie.Need-prepare-alone-requires invariant-loop decrease
 prepare-alone-requires c κs = let h = c.before.loop.invariant in (asked_fit h.0, asked_row h.0 _ (search rules))
 
 mul-charge : tie.Need-overflow-mul-charge invariant-loop decreases-loop
-mul-charge c = search (rules, asked-laws, place_fits)
+mul-charge c = search (rules, asked_laws, place_fits)
 
 element-copy-out-charge : tie.Need-element-copy-out-charge invariant-loop decreases-loop
-element-copy-out-charge c = search (rules, asked-laws)
+element-copy-out-charge c = search (rules, asked_laws)
 
 charge-requires : tie.Need-charge-requires invariant-loop decreases-loop
 charge-requires c κs = let k = c.before.before.before.loop.invariant.0 in (search (rules, tame_of), asked_left k _ (search rules), asked_clock k, asked_deadline k)
 
 add-asked : tie.Need-overflow-add-asked invariant-loop decreases-loop
-add-asked c = search (rules, asked-laws)
+add-asked c = search (rules, asked_laws)
 
 add-j : tie.Need-overflow-add-j invariant-loop decreases-loop
 add-j c = search rules

@@ -6,12 +6,12 @@ use lib.Seq.{length-take-le}
 use borrow.Author.Rules.{rules}
 use Rattle.session.specs.Reading.{rows_of}
 use Rattle.session.specs.Facts.{facts_of}
-use Rattle.calls.specs.Code.{facts_rows, marked-cases}
+use Rattle.calls.specs.Code.{facts_rows, marked_cases}
 use Rattle.calls.proofs.arrive.brittle_row.Statement.{statement}
 use Rattle.calls.proofs.arrive.brittle_row.Tie as tie
 
 returns : tie.Need-returns
-returns c = search (rules, marked-cases)
+returns c = search (rules, marked_cases)
 
 mul-e : tie.Need-overflow-mul-e
 mul-e c = let a = c.before.before in let f = facts_of _ a.requires.0 in record { fits = omega (arith, f.few) }
@@ -43,7 +43,7 @@ below-zero-requires c κs = search rules
 
 returns-2 : tie.Need-returns-2
 unfolding rows_of
-returns-2 c = search (rules, marked-cases)
+returns-2 c = search (rules, marked_cases)
 
 pub brittle-row-spec : {M : Type 1} → statement M
 brittle-row-spec =

@@ -1,6 +1,6 @@
 -- `calls::arrive::row_load` meets its contract. Assumes nothing.
 use borrow.Author.Rules.{rules}
-use Rattle.calls.specs.Code.{load-cases}
+use Rattle.calls.specs.Code.{load_cases}
 use Rattle.calls.proofs.arrive.row_load.Statement.{statement}
 use Rattle.calls.proofs.arrive.row_load.Tie as tie
 
@@ -20,10 +20,10 @@ owe-requires : tie.Need-owe-requires
 owe-requires c κs = search rules
 
 add-result : tie.Need-overflow-add-result
-add-result c = search (rules, load-cases)
+add-result c = search (rules, load_cases)
 
 returns : tie.Need-returns
-returns c = search (rules, load-cases)
+returns c = search (rules, load_cases)
 
 pub row-load-spec : {M : Type 1} → statement M
 row-load-spec =

@@ -1,6 +1,6 @@
 -- `desk::step::add` meets its contract. Assumes nothing.
 use borrow.Author.Rules.{rules}
-use Rattle.desk.specs.Step.{add-cases}
+use Rattle.desk.specs.Step.{add_cases}
 use Rattle.desk.proofs.step.add.Statement.{statement}
 use Rattle.desk.proofs.step.add.Tie as tie
 
@@ -11,7 +11,7 @@ same_length : tie.Need-same-length
 same_length c = search rules
 
 returns : tie.Need-returns
-returns c = search (rules, add-cases)
+returns c = search (rules, add_cases)
 
 put-row-requires : tie.Need-put-row-requires
 put-row-requires c κs = search rules
@@ -26,7 +26,7 @@ same-length-2 : tie.Need-same-length-2
 same-length-2 c = search rules
 
 returns-2 : tie.Need-returns-2
-returns-2 c = search (rules, add-cases)
+returns-2 c = search (rules, add_cases)
 
 pub add_spec : {M : Type 1} → statement M
 add_spec =

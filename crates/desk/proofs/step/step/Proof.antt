@@ -1,6 +1,6 @@
 -- `desk::step::step` meets its contract. Assumes nothing.
 use borrow.Author.Rules.{rules}
-use Rattle.desk.specs.Step.{step-cases}
+use Rattle.desk.specs.Step.{step_cases}
 use Rattle.desk.proofs.step.step.Statement.{statement}
 use Rattle.desk.proofs.step.step.Tie as tie
 
@@ -41,19 +41,19 @@ same-length-2 : tie.Need-same-length-2
 same-length-2 c = search rules
 
 returns : tie.Need-returns
-returns c = search (rules, step-cases)
+returns c = search (rules, step_cases)
 
 same-length-3 : tie.Need-same-length-3
 same-length-3 c = search rules
 
 returns-2 : tie.Need-returns-2
-returns-2 c = search (rules, step-cases)
+returns-2 c = search (rules, step_cases)
 
 same-length-4 : tie.Need-same-length-4
 same-length-4 c = search rules
 
 returns-3 : tie.Need-returns-3
-returns-3 c = search (rules, step-cases)
+returns-3 c = search (rules, step_cases)
 
 same-length-5 : tie.Need-same-length-5
 same-length-5 c = search rules
@@ -62,13 +62,13 @@ same-length-6 : tie.Need-same-length-6
 same-length-6 c = search rules
 
 returns-4 : tie.Need-returns-4
-returns-4 c = search (rules, step-cases)
+returns-4 c = search (rules, step_cases)
 
 same-length-7 : tie.Need-same-length-7
 same-length-7 c = search rules
 
 returns-5 : tie.Need-returns-5
-returns-5 c = search (rules, step-cases)
+returns-5 c = search (rules, step_cases)
 
 pub step_spec : {M : Type 1} → statement M
 step_spec =

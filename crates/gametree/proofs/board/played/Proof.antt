@@ -1,5 +1,5 @@
 -- `gametree::board::played` meets its contract. Assumes nothing.
-use Rattle.gametree.specs.Code.{played-cases}
+use Rattle.gametree.specs.Code.{played_cases}
 use borrow.Author.Rules.{rules}
 use Rattle.gametree.proofs.board.played.Statement.{statement}
 use Rattle.gametree.proofs.board.played.Tie as tie
@@ -8,7 +8,7 @@ add-after : tie.Need-overflow-add-after
 add-after c = search rules
 
 returns : tie.Need-returns
-returns c = search (rules, played-cases)
+returns c = search (rules, played_cases)
 
 mul-j : tie.Need-overflow-mul-j
 mul-j c = search rules
@@ -26,7 +26,7 @@ element-set-from-after : tie.Need-element-set-from-after
 element-set-from-after c = search rules
 
 returns-2 : tie.Need-returns-2
-returns-2 c = search (rules, played-cases)
+returns-2 c = search (rules, played_cases)
 
 pub played-spec : {M : Type 1} → statement M
 played-spec =

@@ -2,8 +2,8 @@
 -- decide fall. Assumes nothing.
 use Prim.Native.Nat.{ℕ, ◌+◌, ◌*◌, ◌<◌}
 use borrow.Author.Rules.{rules}
-use Rattle.gametree.specs.Bounds.{playing_same, playing-laws}
-use Rattle.gametree.specs.Code.{loss-cases, each-cases, round-cases, loses}
+use Rattle.gametree.specs.Bounds.{playing_same, playing_laws}
+use Rattle.gametree.specs.Code.{loss_cases, each_cases, round_cases, loses}
 use borrow.Fn.Kinds.{In}
 use borrow.Fn.PlainCycle.{Measures, is, falls, and}
 use Rattle.gametree.proofs.tree.beaten.Reads as beaten
@@ -85,7 +85,7 @@ beaten-returns : (t : ℕ) → beaten-lts.Need-returns (
   forced-below t,
   forced.Post,
 ) (beaten-at t) beaten.Post
-beaten-returns t c = search (rules, loss-cases)
+beaten-returns t c = search (rules, loss_cases)
 
 beaten-sub-forced : (t : ℕ) → beaten-lts.Need-overflow-sub-forced (
   played-reads.Asked,
@@ -121,7 +121,7 @@ beaten-forced-requires : (t : ℕ) → beaten-lts.Need-forced-requires (
   forced-below t,
   forced.Post,
 ) (beaten-at t) beaten.Post
-beaten-forced-requires t c κs = search (rules, playing-laws)
+beaten-forced-requires t c κs = search (rules, playing_laws)
 
 beaten-returns-2 : (t : ℕ) → beaten-lts.Need-returns-2 (
   played-reads.Asked,
@@ -133,7 +133,7 @@ beaten-returns-2 : (t : ℕ) → beaten-lts.Need-returns-2 (
   forced-below t,
   forced.Post,
 ) (beaten-at t) beaten.Post
-beaten-returns-2 t c = search (rules, loss-cases)
+beaten-returns-2 t c = search (rules, loss_cases)
 
 each-returns : (t : ℕ) → each-lts.Need-returns (
   each_below t,
@@ -143,7 +143,7 @@ each-returns : (t : ℕ) → each-lts.Need-returns (
   beaten-below t,
   beaten.Post,
 ) (each_at t) each.Post
-each-returns t c = search (rules, each-cases)
+each-returns t c = search (rules, each_cases)
 
 each-sub-i : (t : ℕ) → each-lts.Need-overflow-sub-i (
   each_below t,
@@ -173,7 +173,7 @@ each-returns-2 : (t : ℕ) → each-lts.Need-returns-2 (
   beaten-below t,
   beaten.Post,
 ) (each_at t) each.Post
-each-returns-2 t c = search (rules, each-cases)
+each-returns-2 t c = search (rules, each_cases)
 
 each-may-requires : (t : ℕ) → each-lts.Need-may-requires (
   each_below t,
@@ -213,7 +213,7 @@ each-returns-3 : (t : ℕ) → each-lts.Need-returns-3 (
   beaten-below t,
   beaten.Post,
 ) (each_at t) each.Post
-each-returns-3 t c = search (rules, each-cases)
+each-returns-3 t c = search (rules, each_cases)
 
 each-returns-4 : (t : ℕ) → each-lts.Need-returns-4 (
   each_below t,
@@ -223,7 +223,7 @@ each-returns-4 : (t : ℕ) → each-lts.Need-returns-4 (
   beaten-below t,
   beaten.Post,
 ) (each_at t) each.Post
-each-returns-4 t c = search (rules, each-cases)
+each-returns-4 t c = search (rules, each_cases)
 
 each-each-requires-3 : (t : ℕ) → each-lts.Need-each-requires-3 (
   each_below t,
@@ -243,7 +243,7 @@ each-returns-5 : (t : ℕ) → each-lts.Need-returns-5 (
   beaten-below t,
   beaten.Post,
 ) (each_at t) each.Post
-each-returns-5 t c = search (rules, each-cases)
+each-returns-5 t c = search (rules, each_cases)
 
 forced-returns : (t : ℕ) → forced-lts.Need-returns (
   head-reads.Asked,
@@ -257,7 +257,7 @@ forced-returns : (t : ℕ) → forced-lts.Need-returns (
   released-reads.Asked,
   released-reads.Learnt,
 ) (forced-at t) forced.Post
-forced-returns t c = search (rules, round-cases)
+forced-returns t c = search (rules, round_cases)
 
 forced-head-requires : (t : ℕ) → forced-lts.Need-head-requires (
   head-reads.Asked,
@@ -313,7 +313,7 @@ forced-returns-2 : (t : ℕ) → forced-lts.Need-returns-2 (
   released-reads.Asked,
   released-reads.Learnt,
 ) (forced-at t) forced.Post
-forced-returns-2 t c = search (rules, round-cases)
+forced-returns-2 t c = search (rules, round_cases)
 
 forced-returns-3 : (t : ℕ) → forced-lts.Need-returns-3 (
   head-reads.Asked,
@@ -327,7 +327,7 @@ forced-returns-3 : (t : ℕ) → forced-lts.Need-returns-3 (
   released-reads.Asked,
   released-reads.Learnt,
 ) (forced-at t) forced.Post
-forced-returns-3 t c = search (rules, round-cases)
+forced-returns-3 t c = search (rules, round_cases)
 
 forced-sub-i : (t : ℕ) → forced-lts.Need-overflow-sub-i (
   head-reads.Asked,
@@ -397,7 +397,7 @@ forced-returns-4 : (t : ℕ) → forced-lts.Need-returns-4 (
   released-reads.Asked,
   released-reads.Learnt,
 ) (forced-at t) forced.Post
-forced-returns-4 t c = search (rules, round-cases)
+forced-returns-4 t c = search (rules, round_cases)
 
 forced-released-requires : (t : ℕ) → forced-lts.Need-released-requires (
   head-reads.Asked,
@@ -411,7 +411,7 @@ forced-released-requires : (t : ℕ) → forced-lts.Need-released-requires (
   released-reads.Asked,
   released-reads.Learnt,
 ) (forced-at t) forced.Post
-forced-released-requires t c κs = search (rules, playing-laws)
+forced-released-requires t c κs = search (rules, playing_laws)
 
 forced-forced-requires-2 : (t : ℕ) → forced-lts.Need-forced-requires-2 (
   head-reads.Asked,
@@ -439,7 +439,7 @@ forced-returns-5 : (t : ℕ) → forced-lts.Need-returns-5 (
   released-reads.Asked,
   released-reads.Learnt,
 ) (forced-at t) forced.Post
-forced-returns-5 t c = search (rules, round-cases)
+forced-returns-5 t c = search (rules, round_cases)
 
 forced-forced-requires-3 : (t : ℕ) → forced-lts.Need-forced-requires-3 (
   head-reads.Asked,
@@ -467,7 +467,7 @@ forced-returns-6 : (t : ℕ) → forced-lts.Need-returns-6 (
   released-reads.Asked,
   released-reads.Learnt,
 ) (forced-at t) forced.Post
-forced-returns-6 t c = search (rules, round-cases)
+forced-returns-6 t c = search (rules, round_cases)
 
 pub +beaten-each-forced-spec : {M : Type 1} → statement M
 +beaten-each-forced-spec = close μ-beaten μ-each μ-forced (λ t. beaten-lts.spec (

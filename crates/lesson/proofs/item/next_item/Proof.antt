@@ -2,7 +2,7 @@
 use native.Mathlib.Omega.{arith}
 use lib.Seq.{length-take-le}
 use mathlib.Core.Path.{sym}
-use Rattle.lesson.specs.Read.{took-cases}
+use Rattle.lesson.specs.Read.{took_cases}
 use borrow.Author.Rules.{rules}
 use Rattle.lesson.proofs.item.next_item.Statement.{statement}
 use Rattle.lesson.proofs.item.next_item.Tie as tie
@@ -20,7 +20,7 @@ place-requires : tie.Need-place-requires
 place-requires c κs = search rules
 
 returns : tie.Need-returns
-returns c = search (rules, took-cases)
+returns c = search (rules, took_cases)
 
 slice-aggregate-read-item : tie.Need-slice-aggregate-read-item
 slice-aggregate-read-item c = sym (length-take-le _ _ (omega arith))
@@ -35,7 +35,7 @@ add-t14 : tie.Need-overflow-add-t14
 add-t14 c = search rules
 
 returns-2 : tie.Need-returns-2
-returns-2 c = search (rules, took-cases)
+returns-2 c = search (rules, took_cases)
 
 pub next-item-spec : {M : Type 1} → statement M
 next-item-spec =

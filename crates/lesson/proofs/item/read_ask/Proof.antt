@@ -1,5 +1,5 @@
 -- `lesson::item::read_ask` meets its contract. Assumes nothing.
-use Rattle.lesson.specs.Read.{ask-cases}
+use Rattle.lesson.specs.Read.{ask_cases}
 use borrow.Author.Rules.{rules}
 use Rattle.lesson.proofs.item.read_ask.Statement.{statement}
 use Rattle.lesson.proofs.item.read_ask.Tie as tie
@@ -14,10 +14,10 @@ enum_told : tie.Need-enum-told
 enum_told c = search rules
 
 returns : tie.Need-returns
-returns c = search (rules, ask-cases)
+returns c = search (rules, ask_cases)
 
 returns-2 : tie.Need-returns-2
-returns-2 c = search (rules, ask-cases)
+returns-2 c = search (rules, ask_cases)
 
 pub read-ask-spec : {M : Type 1} → statement M
 read-ask-spec =

@@ -1,5 +1,5 @@
 -- `lesson::item::read_other` meets its contract. Assumes nothing.
-use Rattle.lesson.specs.Read.{other-cases}
+use Rattle.lesson.specs.Read.{other_cases}
 use borrow.Author.Rules.{rules}
 use Rattle.lesson.proofs.item.read_other.Statement.{statement}
 use Rattle.lesson.proofs.item.read_other.Tie as tie
@@ -23,19 +23,19 @@ enum-told-4 : tie.Need-enum-told-4
 enum-told-4 c = search rules
 
 returns : tie.Need-returns
-returns c = search (rules, other-cases)
+returns c = search (rules, other_cases)
 
 returns-2 : tie.Need-returns-2
-returns-2 c = search (rules, other-cases)
+returns-2 c = search (rules, other_cases)
 
 returns-3 : tie.Need-returns-3
-returns-3 c = search (rules, other-cases)
+returns-3 c = search (rules, other_cases)
 
 returns-4 : tie.Need-returns-4
-returns-4 c = search (rules, other-cases)
+returns-4 c = search (rules, other_cases)
 
 returns-5 : tie.Need-returns-5
-returns-5 c = search (rules, other-cases)
+returns-5 c = search (rules, other_cases)
 
 pub read-other-spec : {M : Type 1} → statement M
 read-other-spec =

@@ -1,5 +1,5 @@
 -- `lesson::releases::put_answer` meets its contract. Assumes nothing.
-use Rattle.lesson.specs.Put.{answer-cases}
+use Rattle.lesson.specs.Put.{answer_cases}
 use borrow.Author.Rules.{rules}
 use Rattle.lesson.proofs.releases.put_answer.Statement.{statement}
 use Rattle.lesson.proofs.releases.put_answer.Tie as tie
@@ -17,10 +17,10 @@ enum_told : tie.Need-enum-told
 enum_told c = search rules
 
 first-over-requires : tie.Need-first-over-requires
-first-over-requires c κs = search (rules, answer-cases)
+first-over-requires c κs = search (rules, answer_cases)
 
 put-releases-requires : tie.Need-put-releases-requires
-put-releases-requires c κs = search (rules, answer-cases)
+put-releases-requires c κs = search (rules, answer_cases)
 
 enum-told-2 : tie.Need-enum-told-2
 enum-told-2 c = search rules
@@ -32,19 +32,19 @@ same_length : tie.Need-same-length
 same_length c = search rules
 
 returns : tie.Need-returns
-returns c = search (rules, answer-cases)
+returns c = search (rules, answer_cases)
 
 same-length-2 : tie.Need-same-length-2
 same-length-2 c = search rules
 
 returns-2 : tie.Need-returns-2
-returns-2 c = search (rules, answer-cases)
+returns-2 c = search (rules, answer_cases)
 
 same-length-3 : tie.Need-same-length-3
 same-length-3 c = search rules
 
 returns-3 : tie.Need-returns-3
-returns-3 c = search (rules, answer-cases)
+returns-3 c = search (rules, answer_cases)
 
 pub put-answer-spec : {M : Type 1} → statement M
 put-answer-spec =

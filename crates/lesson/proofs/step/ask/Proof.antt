@@ -2,7 +2,7 @@
 use native.Mathlib.Omega.{arith}
 use lib.Seq.{length-take-le}
 use mathlib.Core.Path.{sym}
-use Rattle.lesson.specs.Step.{ask-cases}
+use Rattle.lesson.specs.Step.{ask_cases}
 use borrow.Author.Rules.{rules}
 use Rattle.lesson.proofs.step.ask.Statement.{statement}
 use Rattle.lesson.proofs.step.ask.Tie as tie
@@ -14,7 +14,7 @@ same_length : tie.Need-same-length
 same_length c = search rules
 
 returns : tie.Need-returns
-returns c = search (rules, ask-cases)
+returns c = search (rules, ask_cases)
 
 mul-e : tie.Need-overflow-mul-e
 mul-e c = search rules
@@ -35,7 +35,7 @@ same-length-2 : tie.Need-same-length-2
 same-length-2 c = search rules
 
 returns-2 : tie.Need-returns-2
-returns-2 c = search (rules, ask-cases)
+returns-2 c = search (rules, ask_cases)
 
 pub ask-spec : {M : Type 1} → statement M
 ask-spec =

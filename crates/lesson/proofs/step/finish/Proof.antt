@@ -2,7 +2,7 @@
 use native.Mathlib.Omega.{arith}
 use lib.Seq.{length-take-le}
 use mathlib.Core.Path.{sym}
-use Rattle.lesson.specs.Step.{finish-cases}
+use Rattle.lesson.specs.Step.{finish_cases}
 use borrow.Author.Rules.{rules}
 use Rattle.lesson.proofs.step.finish.Statement.{statement}
 use Rattle.lesson.proofs.step.finish.Tie as tie
@@ -20,10 +20,10 @@ same_length : tie.Need-same-length
 same_length c = search rules
 
 returns : tie.Need-returns
-returns c = search (rules, finish-cases)
+returns c = search (rules, finish_cases)
 
 returns-2 : tie.Need-returns-2
-returns-2 c = search (rules, finish-cases)
+returns-2 c = search (rules, finish_cases)
 
 pub finish_spec : {M : Type 1} → statement M
 finish_spec =

@@ -1,5 +1,5 @@
 -- `lesson::step::step` meets its contract. Assumes nothing.
-use Rattle.lesson.specs.Step.{step-cases}
+use Rattle.lesson.specs.Step.{step_cases}
 use borrow.Author.Rules.{rules}
 use Rattle.lesson.proofs.step.step.Statement.{statement}
 use Rattle.lesson.proofs.step.step.Tie as tie
@@ -29,7 +29,7 @@ same-length-2 : tie.Need-same-length-2
 same-length-2 c = search rules
 
 returns : tie.Need-returns
-returns c = search (rules, step-cases)
+returns c = search (rules, step_cases)
 
 same-length-3 : tie.Need-same-length-3
 same-length-3 c = search rules
@@ -38,13 +38,13 @@ same-length-4 : tie.Need-same-length-4
 same-length-4 c = search rules
 
 returns-2 : tie.Need-returns-2
-returns-2 c = search (rules, step-cases)
+returns-2 c = search (rules, step_cases)
 
 same-length-5 : tie.Need-same-length-5
 same-length-5 c = search rules
 
 returns-3 : tie.Need-returns-3
-returns-3 c = search (rules, step-cases)
+returns-3 c = search (rules, step_cases)
 
 pub step_spec : {M : Type 1} → statement M
 step_spec =

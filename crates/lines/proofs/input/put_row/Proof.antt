@@ -1,6 +1,6 @@
 -- `lines::input::put_row` meets its contract. Assumes nothing.
 use borrow.Author.Rules.{rules}
-use Rattle.lines.specs.Input.{piece-laws}
+use Rattle.lines.specs.Input.{piece_laws}
 use Rattle.lines.proofs.input.put_row.Statement.{statement}
 use Rattle.lines.proofs.input.put_row.Tie as tie
 
@@ -20,7 +20,7 @@ same_length : tie.Need-same-length
 same_length c = search rules
 
 returns : tie.Need-returns
-returns c = search (rules, piece-laws)
+returns c = search (rules, piece_laws)
 
 pub put-row-spec : {M : Type 1} → statement M
 put-row-spec =

@@ -1,6 +1,6 @@
 -- `lines::input::put_single` meets its contract. Assumes nothing.
 use borrow.Author.Rules.{rules}
-use Rattle.lines.specs.Input.{piece-laws}
+use Rattle.lines.specs.Input.{piece_laws}
 use Rattle.lines.proofs.input.put_single.Statement.{statement}
 use Rattle.lines.proofs.input.put_single.Tie as tie
 
@@ -14,7 +14,7 @@ same_length : tie.Need-same-length
 same_length c = search rules
 
 returns : tie.Need-returns
-returns c = search (rules, piece-laws)
+returns c = search (rules, piece_laws)
 
 pub put-single-spec : {M : Type 1} → statement M
 put-single-spec = tie.close (tie.spec put-letter-requires put-number-requires same_length returns)

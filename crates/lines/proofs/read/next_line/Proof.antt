@@ -2,7 +2,7 @@
 use native.Mathlib.Omega.{arith}
 use lib.Seq.{length-take-le}
 use mathlib.Core.Path.{sym}
-use Rattle.lines.specs.Lines.{took-cases}
+use Rattle.lines.specs.Lines.{took_cases}
 use borrow.Author.Rules.{rules}
 use borrow.Author.Rules.{rules}
 use Rattle.lines.proofs.read.next_line.Statement.{statement}
@@ -21,7 +21,7 @@ place-requires : tie.Need-place-requires
 place-requires c κs = search rules
 
 returns : tie.Need-returns
-returns c = search (rules, took-cases)
+returns c = search (rules, took_cases)
 
 slice-aggregate-read-line : tie.Need-slice-aggregate-read-line
 slice-aggregate-read-line c = sym (length-take-le _ _ (omega arith))
@@ -36,7 +36,7 @@ add-t14 : tie.Need-overflow-add-t14
 add-t14 c = search rules
 
 returns-2 : tie.Need-returns-2
-returns-2 c = search (rules, took-cases)
+returns-2 c = search (rules, took_cases)
 
 pub next-line-spec : {M : Type 1} → statement M
 next-line-spec =

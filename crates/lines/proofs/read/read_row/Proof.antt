@@ -2,7 +2,7 @@
 use native.Mathlib.Omega.{arith}
 use lib.Seq.{length-take-le}
 use mathlib.Core.Path.{sym}
-use Rattle.lines.specs.Code.{row-cases}
+use Rattle.lines.specs.Code.{row_cases}
 use borrow.Author.Rules.{rules}
 use borrow.Author.Rules.{rules}
 use Rattle.lines.proofs.read.read_row.Statement.{statement}
@@ -12,7 +12,7 @@ place-requires : tie.Need-place-requires
 place-requires c κs = search rules
 
 returns : tie.Need-returns
-returns c = search (rules, row-cases)
+returns c = search (rules, row_cases)
 
 add-more : tie.Need-overflow-add-more
 add-more c = search rules
@@ -30,7 +30,7 @@ place-requires-2 : tie.Need-place-requires-2
 place-requires-2 c κs = search rules
 
 returns-2 : tie.Need-returns-2
-returns-2 c = search (rules, row-cases)
+returns-2 c = search (rules, row_cases)
 
 slice-aggregate-read-number : tie.Need-slice-aggregate-read-number
 slice-aggregate-read-number c = sym (length-take-le _ _ (omega arith))
@@ -63,7 +63,7 @@ row-requires : tie.Need-row-requires
 row-requires c κs = search rules
 
 returns-3 : tie.Need-returns-3
-returns-3 c = search (rules, row-cases)
+returns-3 c = search (rules, row_cases)
 
 pub read-row-spec : {M : Type 1} → statement M
 read-row-spec =

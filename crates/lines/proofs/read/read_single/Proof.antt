@@ -1,5 +1,5 @@
 -- `lines::read::read_single` meets its contract. Assumes nothing.
-use Rattle.lines.specs.Code.{number-cases}
+use Rattle.lines.specs.Code.{number_cases}
 use borrow.Author.Rules.{rules}
 use borrow.Author.Rules.{rules}
 use Rattle.lines.proofs.read.read_single.Statement.{statement}
@@ -18,10 +18,10 @@ enum_told : tie.Need-enum-told
 enum_told c = search rules
 
 returns : tie.Need-returns
-returns c = search (rules, number-cases)
+returns c = search (rules, number_cases)
 
 returns-2 : tie.Need-returns-2
-returns-2 c = search (rules, number-cases)
+returns-2 c = search (rules, number_cases)
 
 pub read-single-spec : {M : Type 1} → statement M
 read-single-spec =

@@ -1,5 +1,5 @@
 -- `reader::parts::read_decided` meets its contract. Assumes nothing.
-use Rattle.reader.specs.Code.{decided-cases}
+use Rattle.reader.specs.Code.{decided_cases}
 use borrow.Author.Rules.{rules}
 use Rattle.reader.proofs.parts.read_decided.Statement.{statement}
 use Rattle.reader.proofs.parts.read_decided.Tie as tie
@@ -14,13 +14,13 @@ skip-requires : tie.Need-skip-requires
 skip-requires c κs = search rules
 
 returns : tie.Need-returns
-returns c = search (rules, decided-cases)
+returns c = search (rules, decided_cases)
 
 skip-requires-2 : tie.Need-skip-requires-2
 skip-requires-2 c κs = search rules
 
 returns-2 : tie.Need-returns-2
-returns-2 c = search (rules, decided-cases)
+returns-2 c = search (rules, decided_cases)
 
 pub read-decided-spec : {M : Type 1} → statement M
 read-decided-spec =

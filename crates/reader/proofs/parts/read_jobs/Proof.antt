@@ -1,6 +1,6 @@
 -- `reader::parts::read_jobs` meets its contract. Assumes nothing.
 use borrow.Author.Rules.{rules}
-use Rattle.reader.specs.Code.{jobs-cases, jobs_next}
+use Rattle.reader.specs.Code.{jobs_cases, jobs_next}
 use Prim.Native.Nat.{◌≤◌, ◌-◌}
 use lib.ListN.{drop}
 use Rattle.reader.specs.Took.{Took, jobs_at}
@@ -14,7 +14,7 @@ abbrev decreases-loop : tie.decreases-loop
 decreases-loop text at count jobs₀ e₀ i₀ jobs e i = count - i
 
 loop-holds : tie.Need-loop-init invariant-loop decreases-loop
-loop-holds c = search (rules, jobs-cases)
+loop-holds c = search (rules, jobs_cases)
 
 read-job-requires : tie.Need-read-job-requires invariant-loop decreases-loop
 read-job-requires c κs = search rules
@@ -37,7 +37,7 @@ loop-again c =
     (search rules, jobs_next _ _ _ _ _ _ _ (search rules) b.before.before.loop.invariant.1 b.read-job.ensures)
 
 returns : tie.Need-returns invariant-loop decreases-loop
-returns c = search (rules, jobs-cases)
+returns c = search (rules, jobs_cases)
 
 pub read-jobs-spec : {M : Type 1} → statement M
 read-jobs-spec =

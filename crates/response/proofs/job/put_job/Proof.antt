@@ -1,5 +1,5 @@
 -- `response::job::put_job` meets its contract. Assumes nothing.
-use Rattle.response.specs.Put.{job-laws}
+use Rattle.response.specs.Put.{job_laws}
 use borrow.Author.Rules.{rules}
 use Rattle.response.proofs.job.put_job.Statement.{statement}
 use Rattle.response.proofs.job.put_job.Tie as tie
@@ -17,10 +17,10 @@ element-copy-out-bound : tie.Need-element-copy-out-bound
 element-copy-out-bound c = search rules
 
 add-bound : tie.Need-overflow-add-bound
-add-bound c = search (rules, job-laws)
+add-bound c = search (rules, job_laws)
 
 add-bound-2 : tie.Need-overflow-add-bound-2
-add-bound-2 c = search (rules, job-laws)
+add-bound-2 c = search (rules, job_laws)
 
 put-head-requires : tie.Need-put-head-requires
 put-head-requires c κs = search rules
@@ -38,7 +38,7 @@ same_length : tie.Need-same-length
 same_length c = search rules
 
 returns : tie.Need-returns
-returns c = search (rules, job-laws)
+returns c = search (rules, job_laws)
 
 pub put-job-spec : {M : Type 1} → statement M
 put-job-spec =

@@ -1,5 +1,5 @@
 -- `response::job::put_waiting` meets its contract. Assumes nothing.
-use Rattle.response.specs.Put.{waiting-cases}
+use Rattle.response.specs.Put.{waiting_cases}
 use borrow.Author.Rules.{rules}
 use Rattle.response.proofs.job.put_waiting.Statement.{statement}
 use Rattle.response.proofs.job.put_waiting.Tie as tie
@@ -11,7 +11,7 @@ element-copy-out-j : tie.Need-element-copy-out-j
 element-copy-out-j c = search rules
 
 returns : tie.Need-returns
-returns c = search (rules, waiting-cases)
+returns c = search (rules, waiting_cases)
 
 mul-put-job : tie.Need-overflow-mul-put-job
 mul-put-job c = search rules
@@ -20,13 +20,13 @@ array-read-put-job : tie.Need-array-read-put-job
 array-read-put-job c = search rules
 
 put-job-requires : tie.Need-put-job-requires
-put-job-requires c κs = search (rules, waiting-cases)
+put-job-requires c κs = search (rules, waiting_cases)
 
 same_length : tie.Need-same-length
 same_length c = search rules
 
 returns-2 : tie.Need-returns-2
-returns-2 c = search (rules, waiting-cases)
+returns-2 c = search (rules, waiting_cases)
 
 pub put-waiting-spec : {M : Type 1} → statement M
 put-waiting-spec =

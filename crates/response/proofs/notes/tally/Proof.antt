@@ -1,11 +1,11 @@
 -- `response::notes::tally` meets its contract. Assumes nothing.
-use Rattle.response.specs.Note.{tally-cases}
+use Rattle.response.specs.Note.{tally_cases}
 use borrow.Author.Rules.{rules}
 use Rattle.response.proofs.notes.tally.Statement.{statement}
 use Rattle.response.proofs.notes.tally.Tie as tie
 
 returns : tie.Need-returns
-returns c = search (rules, tally-cases)
+returns c = search (rules, tally_cases)
 
 enum-known-c : tie.Need-enum-known-c
 enum-known-c c = search rules
@@ -17,7 +17,7 @@ mul-later : tie.Need-overflow-mul-later
 mul-later c = search rules
 
 array-write-later : tie.Need-array-write-later
-array-write-later c = search (rules, tally-cases)
+array-write-later c = search (rules, tally_cases)
 
 enum_told : tie.Need-enum-told
 enum_told c = search rules
@@ -29,22 +29,22 @@ wide-requires : tie.Need-wide-requires
 wide-requires c κs = search rules
 
 aged-requires : tie.Need-aged-requires
-aged-requires c κs = search (rules, tally-cases)
+aged-requires c κs = search (rules, tally_cases)
 
 enum-told-2 : tie.Need-enum-told-2
 enum-told-2 c = search rules
 
 returns-2 : tie.Need-returns-2
-returns-2 c = search (rules, tally-cases)
+returns-2 c = search (rules, tally_cases)
 
 returns-3 : tie.Need-returns-3
-returns-3 c = search (rules, tally-cases)
+returns-3 c = search (rules, tally_cases)
 
 returns-4 : tie.Need-returns-4
-returns-4 c = search (rules, tally-cases)
+returns-4 c = search (rules, tally_cases)
 
 returns-5 : tie.Need-returns-5
-returns-5 c = search (rules, tally-cases)
+returns-5 c = search (rules, tally_cases)
 
 pub tally-spec : {M : Type 1} → statement M
 tally-spec =

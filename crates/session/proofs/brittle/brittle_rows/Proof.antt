@@ -6,15 +6,15 @@ use lib.Seq.{length-take-le}
 use borrow.Author.Rules.{rules}
 use Rattle.session.specs.Reading.{rows_of}
 use Rattle.session.specs.Facts.{facts_of, facts_fit}
-use Rattle.session.specs.Brittle.{marks-cases}
+use Rattle.session.specs.Brittle.{marks_cases}
 use Rattle.session.proofs.brittle.brittle_rows.Statement.{statement}
 use Rattle.session.proofs.brittle.brittle_rows.Tie as tie
 
 returns : tie.Need-returns
-returns c = let e : length c.before.args.s.words ≡ 48 = search rules in search (rules, marks-cases)
+returns c = let e : length c.before.args.s.words ≡ 48 = search rules in search (rules, marks_cases)
 
 returns-2 : tie.Need-returns-2
-returns-2 c = let e : length c.before.before.args.s.words ≡ 48 = search rules in search (rules, marks-cases)
+returns-2 c = let e : length c.before.before.args.s.words ≡ 48 = search rules in search (rules, marks_cases)
 
 mul-e : tie.Need-overflow-mul-e
 mul-e c = let f = facts_of _ c.before.before.before.requires in record { fits = omega (arith, f.few) }
@@ -45,7 +45,7 @@ returns-3 : tie.Need-returns-3
 unfolding rows_of
 returns-3 c =
     let e : length c.before.before.before.before.before.before.before.before.args.s.words ≡ 48 = search rules in
-    search (rules, marks-cases)
+    search (rules, marks_cases)
 
 pub brittle-rows-spec : {M : Type 1} → statement M
 brittle-rows-spec =

@@ -5,7 +5,7 @@ use lib.ListN.{length}
 use lib.Seq.{length-take-le}
 use borrow.Author.Rules.{rules}
 use Rattle.session.specs.Reading.{rows_of}
-use Rattle.session.specs.Soundness.{check_ready, check-cases}
+use Rattle.session.specs.Soundness.{check_ready, check_cases}
 use Rattle.session.proofs.sound.check_of.Statement.{statement}
 use Rattle.session.proofs.sound.check_of.Tie as tie
 
@@ -14,7 +14,7 @@ unsound-requires c κs = search rules
 
 returns : tie.Need-returns
 unfolding rows_of
-returns c = search (rules, check-cases)
+returns c = search (rules, check_cases)
 
 mul-e : tie.Need-overflow-mul-e
 mul-e c = search rules
@@ -35,21 +35,21 @@ unsound-requires-2 c κs = search rules
 
 returns-2 : tie.Need-returns-2
 unfolding rows_of
-returns-2 c = search (rules, check-cases)
+returns-2 c = search (rules, check_cases)
 
 unsound-requires-3 : tie.Need-unsound-requires-3
 unsound-requires-3 c κs = search rules
 
 returns-3 : tie.Need-returns-3
 unfolding rows_of
-returns-3 c = search (rules, check-cases)
+returns-3 c = search (rules, check_cases)
 
 unsound-requires-4 : tie.Need-unsound-requires-4
 unsound-requires-4 c κs = search rules
 
 returns-4 : tie.Need-returns-4
 unfolding rows_of
-returns-4 c = search (rules, check-cases)
+returns-4 c = search (rules, check_cases)
 
 jobs-sound-requires : tie.Need-jobs-sound-requires
 unfolding rows_of
@@ -64,14 +64,14 @@ returns-5 : tie.Need-returns-5
 unfolding rows_of
 returns-5 c =
     let e : length c.before.before.before.before.before.before.before.before.before.before.before.before.before.before.before.args.s.words ≡ 48 = search rules in
-    search (rules, check-cases)
+    search (rules, check_cases)
 
 unsound-requires-5 : tie.Need-unsound-requires-5
 unsound-requires-5 c κs = search rules
 
 returns-6 : tie.Need-returns-6
 unfolding rows_of
-returns-6 c = search (rules, check-cases)
+returns-6 c = search (rules, check_cases)
 
 pub check-of-spec : {M : Type 1} → statement M
 check-of-spec =

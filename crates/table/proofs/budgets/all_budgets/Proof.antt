@@ -2,7 +2,7 @@
 use Prim.Native.Nat.{◌≤◌, ◌-◌}
 use mathlib.Core.Path.{◌≡◌}
 use borrow.Author.Rules.{rules}
-use Rattle.table.specs.Budgets.{budgets_to, budgets-laws}
+use Rattle.table.specs.Budgets.{budgets_to, budgets_laws}
 use Rattle.table.specs.Rows.{tasks_of}
 use Rattle.table.proofs.budgets.all_budgets.Statement.{statement}
 use Rattle.table.proofs.budgets.all_budgets.Tie as tie
@@ -17,7 +17,7 @@ count-requires : tie.Need-count-requires invariant-loop decreases-loop
 count-requires c κs = search rules
 
 loop-holds : tie.Need-loop-init invariant-loop decreases-loop
-loop-holds c = search (rules, budgets-laws)
+loop-holds c = search (rules, budgets_laws)
 
 value-of-requires : tie.Need-value-of-requires invariant-loop decreases-loop
 value-of-requires c κs = search rules
@@ -47,10 +47,10 @@ loop-less : tie.Need-loop-smaller invariant-loop decreases-loop
 loop-less c = search rules
 
 loop-again : tie.Need-loop-preserved invariant-loop decreases-loop
-loop-again c = search (rules, budgets-laws)
+loop-again c = search (rules, budgets_laws)
 
 returns : tie.Need-returns invariant-loop decreases-loop
-returns c = search (rules, budgets-laws)
+returns c = search (rules, budgets_laws)
 
 pub all-budgets-spec : {M : Type 1} → statement M
 all-budgets-spec =

@@ -4,7 +4,7 @@ use Prim.Native.Nat.{◌≤◌, ◌-◌, ◌*◌}
 use mathlib.Core.Path.{◌≡◌}
 use Rattle.bounded.specs.Sum.{sum_to}
 use Rattle.edf.specs.Demand.{row_demand_lem, demand}
-use Rattle.table.specs.Bound.{total-laws}
+use Rattle.table.specs.Bound.{total_laws}
 use Rattle.table.specs.Rows.{tasks_of}
 use Rattle.table.proofs.demand.demand_at.Statement.{statement}
 use Rattle.table.proofs.demand.demand_at.Tie as tie
@@ -19,13 +19,13 @@ count-requires : tie.Need-count-requires invariant-loop decreases-loop
 count-requires c κs = search rules
 
 loop-holds : tie.Need-loop-init invariant-loop decreases-loop
-loop-holds c = search (rules, total-laws)
+loop-holds c = search (rules, total_laws)
 
 row-demand-requires : tie.Need-row-demand-requires invariant-loop decreases-loop
 row-demand-requires c κs = search rules
 
 add-sum : tie.Need-overflow-add-sum invariant-loop decreases-loop
-add-sum c = search (rules, total-laws)
+add-sum c = search (rules, total_laws)
 
 add-i : tie.Need-overflow-add-i invariant-loop decreases-loop
 add-i c = search rules
@@ -34,11 +34,11 @@ loop-less : tie.Need-loop-smaller invariant-loop decreases-loop
 loop-less c = search rules
 
 loop-again : tie.Need-loop-preserved invariant-loop decreases-loop
-loop-again c = search (rules, total-laws)
+loop-again c = search (rules, total_laws)
 
 returns : tie.Need-returns invariant-loop decreases-loop
 unfolding demand
-returns c = search (rules, total-laws)
+returns c = search (rules, total_laws)
 
 pub demand-at-spec : {M : Type 1} → statement M
 demand-at-spec =

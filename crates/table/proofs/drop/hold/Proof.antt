@@ -1,7 +1,7 @@
 -- `table::drop::hold` meets its contract. Assumes nothing.
 use borrow.Author.Rules.{rules}
 use Prim.Native.Nat.{◌≤◌, ◌-◌}
-use Rattle.table.specs.Drop.{Held, held-laws}
+use Rattle.table.specs.Drop.{Held, held_laws}
 use Rattle.table.specs.Rows.{tasks_of}
 use Rattle.table.proofs.drop.hold.Statement.{statement}
 use Rattle.table.proofs.drop.hold.Tie as tie
@@ -16,13 +16,13 @@ count-requires : tie.Need-count-requires invariant-loop decreases-loop
 count-requires c κs = search rules
 
 loop-holds : tie.Need-loop-init invariant-loop decreases-loop
-loop-holds c = search (rules, held-laws)
+loop-holds c = search (rules, held_laws)
 
 prepare-requires : tie.Need-prepare-requires invariant-loop decreases-loop
 prepare-requires c κs = search rules
 
 with-row-requires : tie.Need-with-row-requires invariant-loop decreases-loop
-with-row-requires c κs = search (rules, held-laws)
+with-row-requires c κs = search (rules, held_laws)
 
 add-i : tie.Need-overflow-add-i invariant-loop decreases-loop
 add-i c = search rules
@@ -31,10 +31,10 @@ loop-less : tie.Need-loop-smaller invariant-loop decreases-loop
 loop-less c = search rules
 
 loop-again : tie.Need-loop-preserved invariant-loop decreases-loop
-loop-again c = search (rules, held-laws)
+loop-again c = search (rules, held_laws)
 
 returns : tie.Need-returns invariant-loop decreases-loop
-returns c = search (rules, held-laws)
+returns c = search (rules, held_laws)
 
 pub hold-spec : {M : Type 1} → statement M
 hold-spec =

@@ -1,6 +1,6 @@
 -- `table::drop::lower` meets its contract. Assumes nothing.
 use borrow.Author.Rules.{rules}
-use Rattle.table.specs.Drop.{lower-laws}
+use Rattle.table.specs.Drop.{lower_laws}
 use Rattle.table.specs.Sieve.{lag_small}
 use Rattle.table.proofs.drop.lower.Statement.{statement}
 use Rattle.table.proofs.drop.lower.Tie as tie
@@ -27,7 +27,7 @@ returns-4 : tie.Need-returns-4
 returns-4 c = search rules
 
 sift-requires : tie.Need-sift-requires
-sift-requires c κs = search (rules, lower-laws, lag_small)
+sift-requires c κs = search (rules, lower_laws, lag_small)
 
 returns-5 : tie.Need-returns-5
 returns-5 c = search rules

@@ -1,11 +1,11 @@
 -- `table::drop::reached` meets its contract. Assumes nothing.
 use borrow.Author.Rules.{rules}
-use Rattle.table.specs.Drop.{drop-cases}
+use Rattle.table.specs.Drop.{drop_cases}
 use Rattle.table.proofs.drop.reached.Statement.{statement}
 use Rattle.table.proofs.drop.reached.Tie as tie
 
 returns : tie.Need-returns
-returns c = search (rules, drop-cases)
+returns c = search (rules, drop_cases)
 
 mul-m : tie.Need-overflow-mul-m
 mul-m c = search rules
@@ -23,7 +23,7 @@ div-result : tie.Need-nonzero-div-result
 div-result c = search rules
 
 returns-2 : tie.Need-returns-2
-returns-2 c = search (rules, drop-cases)
+returns-2 c = search (rules, drop_cases)
 
 surplus-requires : tie.Need-surplus-requires
 surplus-requires c κs = search rules
@@ -32,10 +32,10 @@ add-if3 : tie.Need-overflow-add-if3
 add-if3 c = search rules
 
 returns-3 : tie.Need-returns-3
-returns-3 c = search (rules, drop-cases)
+returns-3 c = search (rules, drop_cases)
 
 returns-4 : tie.Need-returns-4
-returns-4 c = search (rules, drop-cases)
+returns-4 c = search (rules, drop_cases)
 
 pub reached-spec : {M : Type 1} → statement M
 reached-spec =

@@ -1,6 +1,6 @@
 -- `table::drop::sift` meets its contract. Assumes nothing.
 use borrow.Author.Rules.{rules}
-use Rattle.table.specs.Drop.{lower-laws}
+use Rattle.table.specs.Drop.{lower_laws}
 use Rattle.table.proofs.drop.sift.Statement.{statement}
 use Rattle.table.proofs.drop.sift.Tie as tie
 
@@ -14,7 +14,7 @@ sub-result : tie.Need-overflow-sub-result
 sub-result c = search rules
 
 returns : tie.Need-returns
-returns c = search (rules, lower-laws)
+returns c = search (rules, lower_laws)
 
 pub sift-spec : {M : Type 1} → statement M
 sift-spec = tie.close (tie.spec sub-s sieve-requires sub-result returns)

@@ -1,6 +1,6 @@
 -- `table::drop::with_row` meets its contract. Assumes nothing.
 use borrow.Author.Rules.{rules}
-use Rattle.table.specs.Drop.{holding-cases}
+use Rattle.table.specs.Drop.{holding_cases}
 use Rattle.table.proofs.drop.with_row.Statement.{statement}
 use Rattle.table.proofs.drop.with_row.Tie as tie
 
@@ -20,7 +20,7 @@ add-t9 : tie.Need-overflow-add-t9
 add-t9 c = search rules
 
 returns : tie.Need-returns
-returns c = search (rules, holding-cases)
+returns c = search (rules, holding_cases)
 
 owe-requires : tie.Need-owe-requires
 owe-requires c κs = search rules
@@ -29,7 +29,7 @@ add-t11 : tie.Need-overflow-add-t11
 add-t11 c = search rules
 
 returns-2 : tie.Need-returns-2
-returns-2 c = search (rules, holding-cases)
+returns-2 c = search (rules, holding_cases)
 
 pub with-row-spec : {M : Type 1} → statement M
 with-row-spec =

@@ -2,7 +2,7 @@
 use Prim.Native.Nat.{◌-◌}
 use borrow.Author.Rules.{rules}
 use Rattle.table.specs.Rows.{tasks_of}
-use Rattle.table.specs.First.{Narrow, narrow_sums, narrow-laws}
+use Rattle.table.specs.First.{Narrow, narrow_sums, narrow_laws}
 use Rattle.table.proofs.first.first.Statement.{statement}
 use Rattle.table.proofs.first.first.Tie as tie
 
@@ -13,7 +13,7 @@ abbrev decreases-loop : tie.decreases-loop
 decreases-loop words inverses r₀ r = r.at - r.floor
 
 loop-holds : tie.Need-loop-init invariant-loop decreases-loop
-loop-holds c = search (rules, narrow-laws)
+loop-holds c = search (rules, narrow_laws)
 
 add-if1 : tie.Need-overflow-add-if1 invariant-loop decreases-loop
 add-if1 c = search rules
@@ -25,19 +25,19 @@ add-middle : tie.Need-overflow-add-middle invariant-loop decreases-loop
 add-middle c = search rules
 
 search-requires : tie.Need-search-requires invariant-loop decreases-loop
-search-requires c κs = search (rules, narrow-laws)
+search-requires c κs = search (rules, narrow_laws)
 
 narrow-requires : tie.Need-narrow-requires invariant-loop decreases-loop
 narrow-requires c κs = (search rules, search (rules, narrow_sums))
 
 loop-less : tie.Need-loop-smaller invariant-loop decreases-loop
-loop-less c = search (rules, narrow-laws)
+loop-less c = search (rules, narrow_laws)
 
 loop-again : tie.Need-loop-preserved invariant-loop decreases-loop
-loop-again c = search (rules, narrow-laws)
+loop-again c = search (rules, narrow_laws)
 
 returns : tie.Need-returns invariant-loop decreases-loop
-returns c = search (rules, narrow-laws)
+returns c = search (rules, narrow_laws)
 
 pub first_spec : {M : Type 1} → statement M
 first_spec =

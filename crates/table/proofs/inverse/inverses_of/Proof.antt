@@ -2,7 +2,7 @@
 use borrow.Author.Rules.{rules}
 use Prim.Native.Nat.{◌≤◌, ◌-◌}
 use mathlib.Core.Path.{◌≡◌}
-use Rattle.table.specs.Inverse.{inverses_to, inverses-laws}
+use Rattle.table.specs.Inverse.{inverses_to, inverses_laws}
 use Rattle.table.specs.Rows.{tasks_of}
 use Rattle.table.proofs.inverse.inverses_of.Statement.{statement}
 use Rattle.table.proofs.inverse.inverses_of.Tie as tie
@@ -17,7 +17,7 @@ count-requires : tie.Need-count-requires invariant-loop decreases-loop
 count-requires c κs = search rules
 
 loop-holds : tie.Need-loop-init invariant-loop decreases-loop
-loop-holds c = search (rules, inverses-laws)
+loop-holds c = search (rules, inverses_laws)
 
 fit-row-requires : tie.Need-fit-row-requires invariant-loop decreases-loop
 fit-row-requires c κs = search rules
@@ -26,10 +26,10 @@ inverse-of-requires : tie.Need-inverse-of-requires invariant-loop decreases-loop
 inverse-of-requires c κs = search rules
 
 mul-inverses : tie.Need-overflow-mul-inverses invariant-loop decreases-loop
-mul-inverses c = search (rules, inverses-laws)
+mul-inverses c = search (rules, inverses_laws)
 
 array-write-inverses : tie.Need-array-write-inverses invariant-loop decreases-loop
-array-write-inverses c = search (rules, inverses-laws)
+array-write-inverses c = search (rules, inverses_laws)
 
 add-i : tie.Need-overflow-add-i invariant-loop decreases-loop
 add-i c = search rules
@@ -38,10 +38,10 @@ loop-less : tie.Need-loop-smaller invariant-loop decreases-loop
 loop-less c = search rules
 
 loop-again : tie.Need-loop-preserved invariant-loop decreases-loop
-loop-again c = search (rules, inverses-laws)
+loop-again c = search (rules, inverses_laws)
 
 returns : tie.Need-returns invariant-loop decreases-loop
-returns c = search (rules, inverses-laws)
+returns c = search (rules, inverses_laws)
 
 pub inverses-of-spec : {M : Type 1} → statement M
 inverses-of-spec =

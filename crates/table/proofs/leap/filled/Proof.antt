@@ -1,17 +1,17 @@
 -- `table::leap::filled` meets its contract. Assumes nothing.
 use borrow.Author.Rules.{rules}
-use Rattle.table.specs.Leap.{leap-cases}
+use Rattle.table.specs.Leap.{leap_cases}
 use Rattle.table.proofs.leap.filled.Statement.{statement}
 use Rattle.table.proofs.leap.filled.Tie as tie
 
 returns : tie.Need-returns
-returns c = search (rules, leap-cases)
+returns c = search (rules, leap_cases)
 
 returns-2 : tie.Need-returns-2
-returns-2 c = search (rules, leap-cases)
+returns-2 c = search (rules, leap_cases)
 
 returns-3 : tie.Need-returns-3
-returns-3 c = search (rules, leap-cases)
+returns-3 c = search (rules, leap_cases)
 
 least-requires : tie.Need-least-requires
 least-requires c κs = search rules
@@ -23,7 +23,7 @@ div-result : tie.Need-nonzero-div-result
 div-result c = search rules
 
 returns-4 : tie.Need-returns-4
-returns-4 c = search (rules, leap-cases)
+returns-4 c = search (rules, leap_cases)
 
 pub filled-spec : {M : Type 1} → statement M
 filled-spec =

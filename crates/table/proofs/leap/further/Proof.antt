@@ -1,6 +1,6 @@
 -- `table::leap::further` meets its contract. Assumes nothing.
 use borrow.Author.Rules.{rules}
-use Rattle.table.specs.Leap.{further-laws}
+use Rattle.table.specs.Leap.{further_laws}
 use Rattle.table.specs.Sieve.{lag_small}
 use Rattle.table.proofs.leap.further.Statement.{statement}
 use Rattle.table.proofs.leap.further.Tie as tie
@@ -12,7 +12,7 @@ returns : tie.Need-returns
 returns c = search rules
 
 returns-2 : tie.Need-returns-2
-returns-2 c = search (rules, further-laws, lag_small)
+returns-2 c = search (rules, further_laws, lag_small)
 
 leaps-requires-2 : tie.Need-leaps-requires-2
 leaps-requires-2 c κs = search rules
@@ -21,7 +21,7 @@ returns-3 : tie.Need-returns-3
 returns-3 c = search rules
 
 sift-requires : tie.Need-sift-requires
-sift-requires c κs = search (rules, further-laws, lag_small)
+sift-requires c κs = search (rules, further_laws, lag_small)
 
 returns-4 : tie.Need-returns-4
 returns-4 c = search rules

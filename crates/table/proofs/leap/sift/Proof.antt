@@ -1,6 +1,6 @@
 -- `table::leap::sift` meets its contract. Assumes nothing.
 use borrow.Author.Rules.{rules}
-use Rattle.table.specs.Leap.{further-laws}
+use Rattle.table.specs.Leap.{further_laws}
 use Rattle.table.proofs.leap.sift.Statement.{statement}
 use Rattle.table.proofs.leap.sift.Tie as tie
 
@@ -17,7 +17,7 @@ add-result : tie.Need-overflow-add-result
 add-result c = search rules
 
 returns : tie.Need-returns
-returns c = search (rules, further-laws)
+returns c = search (rules, further_laws)
 
 pub sift-spec : {M : Type 1} → statement M
 sift-spec = tie.close (tie.spec sub-s sub-s-2 sieve-requires add-result returns)

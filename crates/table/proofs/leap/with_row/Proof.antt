@@ -1,6 +1,6 @@
 -- `table::leap::with_row` meets its contract. Assumes nothing.
 use borrow.Author.Rules.{rules}
-use Rattle.table.specs.Leap.{filling-cases}
+use Rattle.table.specs.Leap.{filling_cases}
 use Rattle.table.proofs.leap.with_row.Statement.{statement}
 use Rattle.table.proofs.leap.with_row.Tie as tie
 
@@ -14,7 +14,7 @@ add-t7 : tie.Need-overflow-add-t7
 add-t7 c = search rules
 
 returns : tie.Need-returns
-returns c = search (rules, filling-cases)
+returns c = search (rules, filling_cases)
 
 ask-requires : tie.Need-ask-requires
 ask-requires c κs = search rules
@@ -23,7 +23,7 @@ add-t9 : tie.Need-overflow-add-t9
 add-t9 c = search rules
 
 returns-2 : tie.Need-returns-2
-returns-2 c = search (rules, filling-cases)
+returns-2 c = search (rules, filling_cases)
 
 pub with-row-spec : {M : Type 1} → statement M
 with-row-spec =

@@ -1,7 +1,7 @@
 -- `table::overload::search` meets its contract. Assumes nothing.
 use borrow.Author.Rules.{rules}
 use Prim.Native.Nat.{◌≤◌}
-use Rattle.table.specs.Overload.{Clear, overload-laws}
+use Rattle.table.specs.Overload.{Clear, overload_laws}
 use Rattle.table.specs.Rows.{tasks_of}
 use Rattle.table.proofs.overload.search.Statement.{statement}
 use Rattle.table.proofs.overload.search.Tie as tie
@@ -16,16 +16,16 @@ count-requires : tie.Need-count-requires invariant-loop decreases-loop
 count-requires c κs = search rules
 
 loop-holds : tie.Need-loop-init invariant-loop decreases-loop
-loop-holds c = search (rules, overload-laws)
+loop-holds c = search (rules, overload_laws)
 
 demand-at-requires : tie.Need-demand-at-requires invariant-loop decreases-loop
 demand-at-requires c κs = search rules
 
 add-sums : tie.Need-overflow-add-sums invariant-loop decreases-loop
-add-sums c = search (rules, overload-laws)
+add-sums c = search (rules, overload_laws)
 
 returns : tie.Need-returns invariant-loop decreases-loop
-returns c = search (rules, overload-laws)
+returns c = search (rules, overload_laws)
 
 lag-after-requires : tie.Need-lag-after-requires invariant-loop decreases-loop
 lag-after-requires c κs = search rules
@@ -37,10 +37,10 @@ loop-less : tie.Need-loop-smaller invariant-loop decreases-loop
 loop-less c = search rules
 
 loop-again : tie.Need-loop-preserved invariant-loop decreases-loop
-loop-again c = search (rules, overload-laws)
+loop-again c = search (rules, overload_laws)
 
 returns-2 : tie.Need-returns-2 invariant-loop decreases-loop
-returns-2 c = search (rules, overload-laws)
+returns-2 c = search (rules, overload_laws)
 
 pub search-spec : {M : Type 1} → statement M
 search-spec =

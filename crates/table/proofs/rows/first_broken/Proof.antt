@@ -1,7 +1,7 @@
 -- `table::rows::first_broken` meets its contract. Assumes nothing.
 use Prim.Native.Nat.{◌≤◌, ◌-◌}
 use borrow.Author.Rules.{rules}
-use Rattle.bounded.specs.Least.{Passed, first-laws}
+use Rattle.bounded.specs.Least.{Passed, first_laws}
 use Rattle.table.specs.Rows.{tasks_of, broken, first_broken_lem}
 use Rattle.table.proofs.rows.first_broken.Statement.{statement}
 use Rattle.table.proofs.rows.first_broken.Tie as tie
@@ -16,14 +16,14 @@ count-requires : tie.Need-count-requires invariant-loop decreases-loop
 count-requires c κs = search rules
 
 loop-holds : tie.Need-loop-init invariant-loop decreases-loop
-loop-holds c = search (rules, first-laws)
+loop-holds c = search (rules, first_laws)
 
 breaks-requires : tie.Need-breaks-requires invariant-loop decreases-loop
 breaks-requires c κs = search rules
 
 returns : tie.Need-returns invariant-loop decreases-loop
 unfolding first_broken_lem
-returns c = search (rules, first-laws)
+returns c = search (rules, first_laws)
 
 add-i : tie.Need-overflow-add-i invariant-loop decreases-loop
 add-i c = search rules
@@ -32,11 +32,11 @@ loop-less : tie.Need-loop-smaller invariant-loop decreases-loop
 loop-less c = search rules
 
 loop-again : tie.Need-loop-preserved invariant-loop decreases-loop
-loop-again c = search (rules, first-laws)
+loop-again c = search (rules, first_laws)
 
 returns-2 : tie.Need-returns-2 invariant-loop decreases-loop
 unfolding first_broken_lem
-returns-2 c = search (rules, first-laws)
+returns-2 c = search (rules, first_laws)
 
 pub first-broken-spec : {M : Type 1} → statement M
 first-broken-spec =

@@ -2,7 +2,7 @@
 use borrow.Author.Rules.{rules}
 use Prim.Native.Nat.{◌≤◌, ◌-◌}
 use Rattle.table.specs.Rows.{tasks_of}
-use Rattle.table.specs.Settle.{Rising, rising-laws}
+use Rattle.table.specs.Settle.{Rising, rising_laws}
 use Rattle.table.proofs.settle.climb.Statement.{statement}
 use Rattle.table.proofs.settle.climb.Tie as tie
 
@@ -16,19 +16,19 @@ count-requires : tie.Need-count-requires invariant-loop decreases-loop
 count-requires c κs = search rules
 
 loop-holds : tie.Need-loop-init invariant-loop decreases-loop
-loop-holds c = search (rules, rising-laws)
+loop-holds c = search (rules, rising_laws)
 
 requested-requires : tie.Need-requested-requires invariant-loop decreases-loop
 requested-requires c κs = search rules
 
 add-sums : tie.Need-overflow-add-sums invariant-loop decreases-loop
-add-sums c = search (rules, rising-laws)
+add-sums c = search (rules, rising_laws)
 
 returns : tie.Need-returns invariant-loop decreases-loop
-returns c = search (rules, rising-laws)
+returns c = search (rules, rising_laws)
 
 sub-lag-after : tie.Need-overflow-sub-lag-after invariant-loop decreases-loop
-sub-lag-after c = search (rules, rising-laws)
+sub-lag-after c = search (rules, rising_laws)
 
 lag-after-requires : tie.Need-lag-after-requires invariant-loop decreases-loop
 lag-after-requires c κs = search rules
@@ -40,10 +40,10 @@ loop-less : tie.Need-loop-smaller invariant-loop decreases-loop
 loop-less c = search rules
 
 loop-again : tie.Need-loop-preserved invariant-loop decreases-loop
-loop-again c = search (rules, rising-laws)
+loop-again c = search (rules, rising_laws)
 
 returns-2 : tie.Need-returns-2 invariant-loop decreases-loop
-returns-2 c = search (rules, rising-laws)
+returns-2 c = search (rules, rising_laws)
 
 pub climb-spec : {M : Type 1} → statement M
 climb-spec =

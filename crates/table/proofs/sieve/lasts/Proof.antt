@@ -1,7 +1,7 @@
 -- `table::sieve::lasts` meets its contract. Assumes nothing.
 use borrow.Author.Rules.{rules}
 use Prim.Native.Nat.{◌-◌}
-use Rattle.table.specs.Sieve.{Lasting, lasting_next, lasting-laws}
+use Rattle.table.specs.Sieve.{Lasting, lasting_next, lasting_laws}
 use Rattle.table.proofs.sieve.lasts.Statement.{statement}
 use Rattle.table.proofs.sieve.lasts.Tie as tie
 
@@ -12,7 +12,7 @@ abbrev decreases-loop : tie.decreases-loop
 decreases-loop marks s sum₀ j₀ sum j = 128 - j
 
 loop-holds : tie.Need-loop-init invariant-loop decreases-loop
-loop-holds c = search (rules, lasting-laws)
+loop-holds c = search (rules, lasting_laws)
 
 mul_wide : tie.Need-overflow-mul-wide invariant-loop decreases-loop
 mul_wide c = search rules
@@ -21,46 +21,46 @@ mul-wide-2 : tie.Need-overflow-mul-wide-2 invariant-loop decreases-loop
 mul-wide-2 c = search rules
 
 shared-slice-read-wide : tie.Need-shared-slice-read-wide invariant-loop decreases-loop
-shared-slice-read-wide c = search (rules, lasting-laws)
+shared-slice-read-wide c = search (rules, lasting_laws)
 
 wide-requires : tie.Need-wide-requires invariant-loop decreases-loop
 wide-requires c κs = search rules
 
 mul-of-two : tie.Need-overflow-mul-of-two invariant-loop decreases-loop
-mul-of-two c = search (rules, lasting-laws)
+mul-of-two c = search (rules, lasting_laws)
 
 of-two-requires : tie.Need-of-two-requires invariant-loop decreases-loop
 of-two-requires c κs = search rules
 
 mul-result : tie.Need-overflow-mul-result invariant-loop decreases-loop
-mul-result c = search (rules, lasting-laws)
+mul-result c = search (rules, lasting_laws)
 
 add-result : tie.Need-overflow-add-result invariant-loop decreases-loop
-add-result c = search (rules, lasting-laws)
+add-result c = search (rules, lasting_laws)
 
 returns : tie.Need-returns invariant-loop decreases-loop
-returns c = search (rules, lasting-laws)
+returns c = search (rules, lasting_laws)
 
 mul-wide-3 : tie.Need-overflow-mul-wide-3 invariant-loop decreases-loop
-mul-wide-3 c = search (rules, lasting-laws)
+mul-wide-3 c = search (rules, lasting_laws)
 
 add_wide : tie.Need-overflow-add-wide invariant-loop decreases-loop
-add_wide c = search (rules, lasting-laws)
+add_wide c = search (rules, lasting_laws)
 
 mul-wide-4 : tie.Need-overflow-mul-wide-4 invariant-loop decreases-loop
-mul-wide-4 c = search (rules, lasting-laws)
+mul-wide-4 c = search (rules, lasting_laws)
 
 shared-slice-read-wide-2 : tie.Need-shared-slice-read-wide-2 invariant-loop decreases-loop
-shared-slice-read-wide-2 c = search (rules, lasting-laws)
+shared-slice-read-wide-2 c = search (rules, lasting_laws)
 
 wide-requires-2 : tie.Need-wide-requires-2 invariant-loop decreases-loop
 wide-requires-2 c κs = search rules
 
 add-sum : tie.Need-overflow-add-sum invariant-loop decreases-loop
-add-sum c = search (rules, lasting-laws)
+add-sum c = search (rules, lasting_laws)
 
 add-sum-2 : tie.Need-overflow-add-sum-2 invariant-loop decreases-loop
-add-sum-2 c = search (rules, lasting-laws)
+add-sum-2 c = search (rules, lasting_laws)
 
 add-j : tie.Need-overflow-add-j invariant-loop decreases-loop
 add-j c = search rules
@@ -75,7 +75,7 @@ loop-again c =
     asked.result asked.ensures (search rules)
 
 returns-2 : tie.Need-returns-2 invariant-loop decreases-loop
-returns-2 c = search (rules, lasting-laws)
+returns-2 c = search (rules, lasting_laws)
 
 pub lasts-spec : {M : Type 1} → statement M
 lasts-spec =

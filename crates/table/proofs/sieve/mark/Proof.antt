@@ -1,7 +1,7 @@
 -- `table::sieve::mark` meets its contract. Assumes nothing.
 use borrow.Author.Rules.{rules}
 use Prim.Native.Nat.{◌-◌}
-use Rattle.table.specs.Sieve.{Marking, marking-laws}
+use Rattle.table.specs.Sieve.{Marking, marking_laws}
 use Rattle.table.proofs.sieve.mark.Statement.{statement}
 use Rattle.table.proofs.sieve.mark.Tie as tie
 
@@ -12,37 +12,37 @@ abbrev decreases-loop : tie.decreases-loop
 decreases-loop marks₀ a stride c x₀ marks x = 256 - x
 
 loop-holds : tie.Need-loop-init invariant-loop decreases-loop
-loop-holds c = search (rules, marking-laws)
+loop-holds c = search (rules, marking_laws)
 
 mul-marks : tie.Need-overflow-mul-marks invariant-loop decreases-loop
-mul-marks c = search (rules, marking-laws)
+mul-marks c = search (rules, marking_laws)
 
 slice-read-marks : tie.Need-slice-read-marks invariant-loop decreases-loop
-slice-read-marks c = search (rules, marking-laws)
+slice-read-marks c = search (rules, marking_laws)
 
 add-marks : tie.Need-overflow-add-marks invariant-loop decreases-loop
-add-marks c = search (rules, marking-laws)
+add-marks c = search (rules, marking_laws)
 
 mul-marks-2 : tie.Need-overflow-mul-marks-2 invariant-loop decreases-loop
-mul-marks-2 c = search (rules, marking-laws)
+mul-marks-2 c = search (rules, marking_laws)
 
 slice-write-marks : tie.Need-slice-write-marks invariant-loop decreases-loop
-slice-write-marks c = search (rules, marking-laws)
+slice-write-marks c = search (rules, marking_laws)
 
 add-x : tie.Need-overflow-add-x invariant-loop decreases-loop
-add-x c = search (rules, marking-laws)
+add-x c = search (rules, marking_laws)
 
 loop-less : tie.Need-loop-smaller invariant-loop decreases-loop
-loop-less c = search (rules, marking-laws)
+loop-less c = search (rules, marking_laws)
 
 loop-again : tie.Need-loop-preserved invariant-loop decreases-loop
-loop-again c = search (rules, marking-laws)
+loop-again c = search (rules, marking_laws)
 
 same_length : tie.Need-same-length invariant-loop decreases-loop
-same_length c = search (rules, marking-laws)
+same_length c = search (rules, marking_laws)
 
 returns : tie.Need-returns invariant-loop decreases-loop
-returns c = search (rules, marking-laws)
+returns c = search (rules, marking_laws)
 
 pub mark_spec : {M : Type 1} → statement M
 mark_spec =

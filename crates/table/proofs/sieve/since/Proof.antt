@@ -1,6 +1,6 @@
 -- `table::sieve::since` meets its contract. Assumes nothing.
 use borrow.Author.Rules.{rules}
-use Rattle.table.specs.Sieve.{place-laws}
+use Rattle.table.specs.Sieve.{place_laws}
 use Rattle.table.proofs.sieve.since.Statement.{statement}
 use Rattle.table.proofs.sieve.since.Tie as tie
 
@@ -14,13 +14,13 @@ jobs-by-requires : tie.Need-jobs-by-requires
 jobs-by-requires c κs = search rules
 
 mul-result : tie.Need-overflow-mul-result
-mul-result c = search (rules, place-laws)
+mul-result c = search (rules, place_laws)
 
 sub-result-2 : tie.Need-overflow-sub-result-2
-sub-result-2 c = search (rules, place-laws)
+sub-result-2 c = search (rules, place_laws)
 
 returns : tie.Need-returns
-returns c = search (rules, place-laws)
+returns c = search (rules, place_laws)
 
 pub since-spec : {M : Type 1} → statement M
 since-spec =

@@ -2,7 +2,7 @@
 use mathlib.Core.Path.{sym}
 use native.Mathlib.Omega.{arith}
 use lib.Seq.{length-take-le}
-use Rattle.transcript.specs.Opening.{judge-laws}
+use Rattle.transcript.specs.Opening.{judge_laws}
 use borrow.Author.Rules.{rules}
 use Rattle.transcript.proofs.opening.judge.Statement.{statement}
 use Rattle.transcript.proofs.opening.judge.Tie as tie
@@ -23,13 +23,13 @@ opinion-requires : tie.Need-opinion-requires
 opinion-requires c κs = search rules
 
 put-opinion-requires : tie.Need-put-opinion-requires
-put-opinion-requires c κs = search (rules, judge-laws)
+put-opinion-requires c κs = search (rules, judge_laws)
 
 same_length : tie.Need-same-length
 same_length c = search rules
 
 returns : tie.Need-returns
-returns c = search (rules, judge-laws)
+returns c = search (rules, judge_laws)
 
 pub judge-spec : {M : Type 1} → statement M
 judge-spec =

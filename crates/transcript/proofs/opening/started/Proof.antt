@@ -2,7 +2,7 @@
 use mathlib.Core.Path.{sym}
 use native.Mathlib.Omega.{arith}
 use lib.Seq.{length-take-le}
-use Rattle.transcript.specs.Opening.{started-laws}
+use Rattle.transcript.specs.Opening.{started_laws}
 use borrow.Author.Rules.{rules}
 use Rattle.transcript.proofs.opening.started.Statement.{statement}
 use Rattle.transcript.proofs.opening.started.Tie as tie
@@ -20,7 +20,7 @@ none-requires : tie.Need-none-requires
 none-requires c κs = search rules
 
 array-share-prefix-words : tie.Need-array-share-prefix-words
-array-share-prefix-words c = search (rules, started-laws)
+array-share-prefix-words c = search (rules, started_laws)
 
 slice-aggregate-start-by : tie.Need-slice-aggregate-start-by
 slice-aggregate-start-by c = sym (length-take-le _ _ (omega arith))
@@ -29,7 +29,7 @@ start-by-requires : tie.Need-start-by-requires
 start-by-requires c κs = search rules
 
 returns : tie.Need-returns
-returns c = search (rules, started-laws)
+returns c = search (rules, started_laws)
 
 pub started-spec : {M : Type 1} → statement M
 started-spec =

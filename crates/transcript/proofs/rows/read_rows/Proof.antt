@@ -8,7 +8,7 @@ use types.Run.{OneOf, miss}
 use Rattle.lines.specs.contracts.read.Line.{the_type}
 use Rattle.lines.specs.declared.read.Line.{Line}
 use Rattle.lines.specs.declared.read.Line.TheVariants.{Row}
-use Rattle.transcript.specs.Table.{Reading, table-laws}
+use Rattle.transcript.specs.Table.{Reading, table_laws}
 use Rattle.transcript.proofs.rows.read_rows.Statement.{statement}
 use Rattle.transcript.proofs.rows.read_rows.Tie as tie
 
@@ -23,10 +23,10 @@ not-row : (x : Line) → OneOf (1 ∷ 2 ∷ 3 ∷ 4 ∷ []) (tag_of the_type x) 
 not-row x h c p d e = miss (1 ∷ 2 ∷ 3 ∷ 4 ∷ []) 0 tt (rw e at h)
 
 loop-holds : tie.Need-loop-init invariant-loop decreases-loop
-loop-holds c = search (rules, table-laws)
+loop-holds c = search (rules, table_laws)
 
 returns : tie.Need-returns invariant-loop decreases-loop
-returns c = search (rules, table-laws)
+returns c = search (rules, table_laws)
 
 next-line-requires : tie.Need-next-line-requires invariant-loop decreases-loop
 next-line-requires c κs = search rules
@@ -35,19 +35,19 @@ enum-known-line : tie.Need-enum-known-line invariant-loop decreases-loop
 enum-known-line c = search rules
 
 returns-2 : tie.Need-returns-2 invariant-loop decreases-loop
-returns-2 c = search (rules, table-laws, not-row)
+returns-2 c = search (rules, table_laws, not-row)
 
 with-row-requires : tie.Need-with-row-requires invariant-loop decreases-loop
 with-row-requires c κs = search rules
 
 loop-less : tie.Need-loop-smaller invariant-loop decreases-loop
-loop-less c = search (rules, table-laws)
+loop-less c = search (rules, table_laws)
 
 loop-again : tie.Need-loop-preserved invariant-loop decreases-loop
-loop-again c = search (rules, table-laws)
+loop-again c = search (rules, table_laws)
 
 returns-3 : tie.Need-returns-3 invariant-loop decreases-loop
-returns-3 c = search (rules, table-laws)
+returns-3 c = search (rules, table_laws)
 
 pub read-rows-spec : {M : Type 1} → statement M
 read-rows-spec =

@@ -1,6 +1,6 @@
 -- `transcript::step::aside` meets its contract. Assumes nothing.
 use borrow.Author.Rules.{rules}
-use Rattle.transcript.specs.Play.{aside-laws}
+use Rattle.transcript.specs.Play.{aside_laws}
 use Rattle.transcript.proofs.step.aside.Statement.{statement}
 use Rattle.transcript.proofs.step.aside.Tie as tie
 
@@ -8,7 +8,7 @@ enum-known-line : tie.Need-enum-known-line
 enum-known-line c = search rules
 
 queue-requires : tie.Need-queue-requires
-queue-requires c κs = search (rules, aside-laws)
+queue-requires c κs = search (rules, aside_laws)
 
 enum_told : tie.Need-enum-told
 enum_told c = search rules
@@ -38,28 +38,28 @@ same-length-2 : tie.Need-same-length-2
 same-length-2 c = search rules
 
 returns : tie.Need-returns
-returns c = search (rules, aside-laws)
+returns c = search (rules, aside_laws)
 
 returns-2 : tie.Need-returns-2
-returns-2 c = search (rules, aside-laws)
+returns-2 c = search (rules, aside_laws)
 
 same-length-3 : tie.Need-same-length-3
 same-length-3 c = search rules
 
 returns-3 : tie.Need-returns-3
-returns-3 c = search (rules, aside-laws)
+returns-3 c = search (rules, aside_laws)
 
 same-length-4 : tie.Need-same-length-4
 same-length-4 c = search rules
 
 returns-4 : tie.Need-returns-4
-returns-4 c = search (rules, aside-laws)
+returns-4 c = search (rules, aside_laws)
 
 same-length-5 : tie.Need-same-length-5
 same-length-5 c = search rules
 
 returns-5 : tie.Need-returns-5
-returns-5 c = search (rules, aside-laws)
+returns-5 c = search (rules, aside_laws)
 
 pub aside-spec : {M : Type 1} → statement M
 aside-spec =

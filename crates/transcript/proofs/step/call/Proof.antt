@@ -1,5 +1,5 @@
 -- `transcript::step::call` meets its contract. Assumes nothing.
-use Rattle.transcript.specs.Play.{call-cases}
+use Rattle.transcript.specs.Play.{call_cases}
 use borrow.Author.Rules.{rules}
 use borrow.Author.Rules.{rules}
 use Rattle.transcript.proofs.step.call.Statement.{statement}
@@ -36,16 +36,16 @@ finish-sound-requires : tie.Need-finish-sound-requires
 finish-sound-requires c κs = search rules
 
 returns : tie.Need-returns
-returns c = search (rules, call-cases)
+returns c = search (rules, call_cases)
 
 returns-2 : tie.Need-returns-2
-returns-2 c = search (rules, call-cases)
+returns-2 c = search (rules, call_cases)
 
 returns-3 : tie.Need-returns-3
-returns-3 c = search (rules, call-cases)
+returns-3 c = search (rules, call_cases)
 
 returns-4 : tie.Need-returns-4
-returns-4 c = search (rules, call-cases)
+returns-4 c = search (rules, call_cases)
 
 pub call-spec : {M : Type 1} → statement M
 call-spec =

@@ -1,5 +1,5 @@
 -- `transcript::step::queue` meets its contract. Assumes nothing.
-use Rattle.transcript.specs.Play.{word-cases}
+use Rattle.transcript.specs.Play.{word_cases}
 use borrow.Author.Rules.{rules}
 use borrow.Author.Rules.{rules}
 use Rattle.transcript.proofs.step.queue.Statement.{statement}
@@ -24,7 +24,7 @@ same_length : tie.Need-same-length
 same_length c = search rules
 
 returns : tie.Need-returns
-returns c = search (rules, word-cases)
+returns c = search (rules, word_cases)
 
 refuse-requires : tie.Need-refuse-requires
 refuse-requires c κs = search rules
@@ -33,7 +33,7 @@ same-length-2 : tie.Need-same-length-2
 same-length-2 c = search rules
 
 returns-2 : tie.Need-returns-2
-returns-2 c = search (rules, word-cases)
+returns-2 c = search (rules, word_cases)
 
 pub queue-spec : {M : Type 1} → statement M
 queue-spec =

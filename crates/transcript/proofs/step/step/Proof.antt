@@ -1,6 +1,6 @@
 -- `transcript::step::step` meets its contract. Assumes nothing.
 use borrow.Author.Rules.{rules}
-use Rattle.transcript.specs.Play.{part_is, step_tells, step-laws}
+use Rattle.transcript.specs.Play.{part_is, step_tells, step_laws}
 use Rattle.transcript.proofs.NotCall.{not_call}
 use Rattle.transcript.proofs.step.step.Statement.{statement}
 use Rattle.transcript.proofs.step.step.Tie as tie
@@ -18,7 +18,7 @@ same-length-2 : tie.Need-same-length-2
 same-length-2 c = search rules
 
 returns : tie.Need-returns
-returns c = search (rules, step-laws, not_call)
+returns c = search (rules, step_laws, not_call)
 
 mul-call : tie.Need-overflow-mul-call
 mul-call c = search rules
@@ -52,7 +52,7 @@ same-length-4 : tie.Need-same-length-4
 same-length-4 c = search rules
 
 returns-2 : tie.Need-returns-2
-returns-2 c = search (rules, step-laws, part_is)
+returns-2 c = search (rules, step_laws, part_is)
 
 pub step_spec : {M : Type 1} → statement M
 step_spec =

@@ -1,6 +1,6 @@
 -- `wording::text::put_brittle` meets its contract. Assumes nothing.
 use borrow.Author.Rules.{rules}
-use Rattle.wording.specs.Write.{brittle-cases}
+use Rattle.wording.specs.Write.{brittle_cases}
 use Rattle.wording.proofs.text.put_brittle.Statement.{statement}
 use Rattle.wording.proofs.text.put_brittle.Tie as tie
 
@@ -23,13 +23,13 @@ put-bytes-requires : tie.Need-put-bytes-requires
 put-bytes-requires c κs = search rules
 
 returns : tie.Need-returns
-returns c = search (rules, brittle-cases)
+returns c = search (rules, brittle_cases)
 
 same_length : tie.Need-same-length
 same_length c = search rules
 
 returns-2 : tie.Need-returns-2
-returns-2 c = search (rules, brittle-cases)
+returns-2 c = search (rules, brittle_cases)
 
 pub put-brittle-spec : {M : Type 1} → statement M
 put-brittle-spec =

@@ -1,6 +1,6 @@
 -- `wording::text::put_budget` meets its contract. Assumes nothing.
 use borrow.Author.Rules.{rules}
-use Rattle.wording.specs.Write.{budget-cases}
+use Rattle.wording.specs.Write.{budget_cases}
 use Rattle.wording.proofs.text.put_budget.Statement.{statement}
 use Rattle.wording.proofs.text.put_budget.Tie as tie
 
@@ -14,7 +14,7 @@ same_length : tie.Need-same-length
 same_length c = search rules
 
 returns : tie.Need-returns
-returns c = search (rules, budget-cases)
+returns c = search (rules, budget_cases)
 
 put-number-requires : tie.Need-put-number-requires
 put-number-requires c κs = search rules
@@ -23,7 +23,7 @@ same-length-2 : tie.Need-same-length-2
 same-length-2 c = search rules
 
 returns-2 : tie.Need-returns-2
-returns-2 c = search (rules, budget-cases)
+returns-2 c = search (rules, budget_cases)
 
 pub put-budget-spec : {M : Type 1} → statement M
 put-budget-spec =

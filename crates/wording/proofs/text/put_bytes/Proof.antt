@@ -2,7 +2,7 @@
 use Prim.Native.Nat.{◌-◌}
 use lib.ListN.{length}
 use borrow.Author.Rules.{rules}
-use Rattle.wording.specs.Bytes.{Putting, putting-laws}
+use Rattle.wording.specs.Bytes.{Putting, putting_laws}
 use Rattle.wording.proofs.text.put_bytes.Statement.{statement}
 use Rattle.wording.proofs.text.put_bytes.Tie as tie
 
@@ -13,7 +13,7 @@ abbrev decreases-loop : tie.decreases-loop
 decreases-loop out₀ at phrase i₀ out i = length phrase - i
 
 loop-holds : tie.Need-loop-init invariant-loop decreases-loop
-loop-holds c = search (rules, putting-laws)
+loop-holds c = search (rules, putting_laws)
 
 shared-slice-read-out : tie.Need-shared-slice-read-out invariant-loop decreases-loop
 shared-slice-read-out c = search rules
@@ -31,7 +31,7 @@ loop-less : tie.Need-loop-smaller invariant-loop decreases-loop
 loop-less c = search rules
 
 loop-again : tie.Need-loop-preserved invariant-loop decreases-loop
-loop-again c = search (rules, putting-laws)
+loop-again c = search (rules, putting_laws)
 
 add-result : tie.Need-overflow-add-result invariant-loop decreases-loop
 add-result c = search rules
@@ -40,7 +40,7 @@ same_length : tie.Need-same-length invariant-loop decreases-loop
 same_length c = search rules
 
 returns : tie.Need-returns invariant-loop decreases-loop
-returns c = search (rules, putting-laws)
+returns c = search (rules, putting_laws)
 
 pub put-bytes-spec : {M : Type 1} → statement M
 put-bytes-spec =

@@ -1,6 +1,6 @@
 -- `wording::text::put_chosen` meets its contract. Assumes nothing.
 use borrow.Author.Rules.{rules}
-use Rattle.wording.specs.Write.{chosen-cases}
+use Rattle.wording.specs.Write.{chosen_cases}
 use Rattle.wording.proofs.text.put_chosen.Statement.{statement}
 use Rattle.wording.proofs.text.put_chosen.Tie as tie
 
@@ -14,7 +14,7 @@ same_length : tie.Need-same-length
 same_length c = search rules
 
 returns : tie.Need-returns
-returns c = search (rules, chosen-cases)
+returns c = search (rules, chosen_cases)
 
 slice-aggregate-put-value : tie.Need-slice-aggregate-put-value
 slice-aggregate-put-value c = search rules
@@ -26,7 +26,7 @@ same-length-2 : tie.Need-same-length-2
 same-length-2 c = search rules
 
 returns-2 : tie.Need-returns-2
-returns-2 c = search (rules, chosen-cases)
+returns-2 c = search (rules, chosen_cases)
 
 pub put-chosen-spec : {M : Type 1} → statement M
 put-chosen-spec =

@@ -1,6 +1,6 @@
 -- `wording::text::put_decided` meets its contract. Assumes nothing.
 use borrow.Author.Rules.{rules}
-use Rattle.wording.specs.Write.{decided-cases}
+use Rattle.wording.specs.Write.{decided_cases}
 use Rattle.wording.proofs.text.put_decided.Statement.{statement}
 use Rattle.wording.proofs.text.put_decided.Tie as tie
 
@@ -29,13 +29,13 @@ same_length : tie.Need-same-length
 same_length c = search rules
 
 returns : tie.Need-returns
-returns c = search (rules, decided-cases)
+returns c = search (rules, decided_cases)
 
 same-length-2 : tie.Need-same-length-2
 same-length-2 c = search rules
 
 returns-2 : tie.Need-returns-2
-returns-2 c = search (rules, decided-cases)
+returns-2 c = search (rules, decided_cases)
 
 pub put-decided-spec : {M : Type 1} → statement M
 put-decided-spec =

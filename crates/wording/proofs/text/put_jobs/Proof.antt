@@ -1,7 +1,7 @@
 -- `wording::text::put_jobs` meets its contract. Assumes nothing.
 use Prim.Native.Nat.{◌-◌}
 use borrow.Author.Rules.{rules}
-use Rattle.wording.specs.Write.{Listed, listed-laws}
+use Rattle.wording.specs.Write.{Listed, listed_laws}
 use Rattle.wording.proofs.text.put_jobs.Statement.{statement}
 use Rattle.wording.proofs.text.put_jobs.Tie as tie
 
@@ -15,7 +15,7 @@ put-count-requires : tie.Need-put-count-requires invariant-loop decreases-loop
 put-count-requires c κs = search rules
 
 loop-holds : tie.Need-loop-init invariant-loop decreases-loop
-loop-holds c = search (rules, listed-laws)
+loop-holds c = search (rules, listed_laws)
 
 mul-put-job : tie.Need-overflow-mul-put-job invariant-loop decreases-loop
 mul-put-job c = search rules
@@ -33,13 +33,13 @@ loop-less : tie.Need-loop-smaller invariant-loop decreases-loop
 loop-less c = search rules
 
 loop-again : tie.Need-loop-preserved invariant-loop decreases-loop
-loop-again c = search (rules, listed-laws)
+loop-again c = search (rules, listed_laws)
 
 same_length : tie.Need-same-length invariant-loop decreases-loop
 same_length c = search rules
 
 returns : tie.Need-returns invariant-loop decreases-loop
-returns c = search (rules, listed-laws)
+returns c = search (rules, listed_laws)
 
 pub put-jobs-spec : {M : Type 1} → statement M
 put-jobs-spec =

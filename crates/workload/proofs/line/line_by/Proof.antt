@@ -1,6 +1,6 @@
 -- `workload::line::line_by` meets its contract. Assumes nothing.
 use Rattle.std.proofs.Common.{rules}
-use Rattle.workload.specs.Line.{line-cases}
+use Rattle.workload.specs.Line.{line_cases}
 use Rattle.workload.proofs.line.line_by.Statement.{statement}
 use Rattle.workload.proofs.line.line_by.Tie as tie
 
@@ -11,7 +11,7 @@ cast-t10 : tie.Need-overflow-cast-t10
 cast-t10 c = search rules
 
 returns : tie.Need-returns
-returns c = search (rules, line-cases)
+returns c = search (rules, line_cases)
 
 until-next-requires : tie.Need-until-next-requires
 until-next-requires c κs = search rules
@@ -23,16 +23,16 @@ cast-t13 : tie.Need-overflow-cast-t13
 cast-t13 c = search rules
 
 returns-2 : tie.Need-returns-2
-returns-2 c = search (rules, line-cases)
+returns-2 c = search (rules, line_cases)
 
 returns-3 : tie.Need-returns-3
-returns-3 c = search (rules, line-cases)
+returns-3 c = search (rules, line_cases)
 
 next-requires : tie.Need-next-requires
 next-requires c κs = search rules
 
 returns-4 : tie.Need-returns-4
-returns-4 c = search (rules, line-cases)
+returns-4 c = search (rules, line_cases)
 
 pub line-by-spec : {M : Type 1} → statement M
 line-by-spec =

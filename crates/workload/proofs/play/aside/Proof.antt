@@ -1,6 +1,6 @@
 -- `workload::play::aside` meets its contract. Assumes nothing.
 use Rattle.std.proofs.Common.{rules}
-use Rattle.workload.specs.Play.{aside-cases}
+use Rattle.workload.specs.Play.{aside_cases}
 use Rattle.workload.proofs.play.aside.Statement.{statement}
 use Rattle.workload.proofs.play.aside.Tie as tie
 
@@ -26,19 +26,19 @@ same_length : tie.Need-same-length
 same_length c = search rules
 
 returns : tie.Need-returns
-returns c = search (rules, aside-cases)
+returns c = search (rules, aside_cases)
 
 returns-2 : tie.Need-returns-2
-returns-2 c = search (rules, aside-cases)
+returns-2 c = search (rules, aside_cases)
 
 returns-3 : tie.Need-returns-3
-returns-3 c = search (rules, aside-cases)
+returns-3 c = search (rules, aside_cases)
 
 returns-4 : tie.Need-returns-4
-returns-4 c = search (rules, aside-cases)
+returns-4 c = search (rules, aside_cases)
 
 returns-5 : tie.Need-returns-5
-returns-5 c = search (rules, aside-cases)
+returns-5 c = search (rules, aside_cases)
 
 pub aside-spec : {M : Type 1} → statement M
 aside-spec =

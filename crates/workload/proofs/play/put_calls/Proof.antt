@@ -3,7 +3,7 @@ use Rattle.std.proofs.Common.{arith, rules}
 use Rattle.transcript.specs.Play.{part_is}
 use Rattle.transcript.proofs.NotCall.{not_call}
 use Rattle.workload.specs.Loose.{count_few}
-use Rattle.workload.specs.Play.{Playing, aside_went, used_within, went_call, play_ready, play-laws}
+use Rattle.workload.specs.Play.{Playing, aside_went, used_within, went_call, play_ready, play_laws}
 use Rattle.workload.proofs.play.put_calls.Statement.{statement}
 use Rattle.workload.proofs.play.put_calls.Tie as tie
 
@@ -17,46 +17,46 @@ sub-left : tie.Need-overflow-sub-left invariant-loop decreases-loop
 sub-left c = omega (arith, count_few c.before.args.seed)
 
 loop-holds : tie.Need-loop-init invariant-loop decreases-loop
-loop-holds c = search (rules, play-laws)
+loop-holds c = search (rules, play_laws)
 
 line-by-requires : tie.Need-line-by-requires invariant-loop decreases-loop
-line-by-requires c κs = search (rules, play-laws)
+line-by-requires c κs = search (rules, play_laws)
 
 put-input-requires : tie.Need-put-input-requires invariant-loop decreases-loop
-put-input-requires c κs = search (rules, play-laws)
+put-input-requires c κs = search (rules, play_laws)
 
 sub-left-2 : tie.Need-overflow-sub-left-2 invariant-loop decreases-loop
-sub-left-2 c = search (rules, play-laws)
+sub-left-2 c = search (rules, play_laws)
 
 enum-known-line : tie.Need-enum-known-line invariant-loop decreases-loop
-enum-known-line c = search (rules, play-laws)
+enum-known-line c = search (rules, play_laws)
 
 slice-aggregate-aside : tie.Need-slice-aggregate-aside invariant-loop decreases-loop
-slice-aggregate-aside c = search (rules, play-laws)
+slice-aggregate-aside c = search (rules, play_laws)
 
 aside-requires : tie.Need-aside-requires invariant-loop decreases-loop
-aside-requires c κs = search (rules, play-laws)
+aside-requires c κs = search (rules, play_laws)
 
 loop-less : tie.Need-loop-smaller invariant-loop decreases-loop
-loop-less c = search (rules, play-laws)
+loop-less c = search (rules, play_laws)
 
 loop-again : tie.Need-loop-preserved invariant-loop decreases-loop
-loop-again c = search (rules, play-laws, aside_went, not_call)
+loop-again c = search (rules, play_laws, aside_went, not_call)
 
 mul-call : tie.Need-overflow-mul-call invariant-loop decreases-loop
-mul-call c = search (rules, play-laws)
+mul-call c = search (rules, play_laws)
 
 sub-call : tie.Need-overflow-sub-call invariant-loop decreases-loop
-sub-call c = search (rules, play-laws)
+sub-call c = search (rules, play_laws)
 
 part-call-start : tie.Need-slice-bounds-call-start invariant-loop decreases-loop
-part-call-start c = search (rules, play-laws)
+part-call-start c = search (rules, play_laws)
 
 part-call-end : tie.Need-slice-bounds-call-end invariant-loop decreases-loop
-part-call-end c = search (rules, play-laws)
+part-call-end c = search (rules, play_laws)
 
 call-requires : tie.Need-call-requires invariant-loop decreases-loop
-call-requires c κs = search (rules, play-laws)
+call-requires c κs = search (rules, play_laws)
 
 called-requires : tie.Need-called-requires invariant-loop decreases-loop
 called-requires c κs =
@@ -67,16 +67,16 @@ called-requires c κs =
     (part_is turn.loop.p.from turn.loop.p.to turn.loop.words) called.call.result called.call.ensures
 
 loop-less-2 : tie.Need-loop-smaller-2 invariant-loop decreases-loop
-loop-less-2 c = search (rules, play-laws)
+loop-less-2 c = search (rules, play_laws)
 
 loop-again-2 : tie.Need-loop-preserved-2 invariant-loop decreases-loop
-loop-again-2 c = search (rules, play-laws, went_call, part_is)
+loop-again-2 c = search (rules, play_laws, went_call, part_is)
 
 same_length : tie.Need-same-length invariant-loop decreases-loop
-same_length c = search (rules, play-laws)
+same_length c = search (rules, play_laws)
 
 returns : tie.Need-returns invariant-loop decreases-loop
-returns c = search (rules, play-laws)
+returns c = search (rules, play_laws)
 
 pub put-calls-spec : {M : Type 1} → statement M
 put-calls-spec =
