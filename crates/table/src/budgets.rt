@@ -12,7 +12,7 @@ use super::request::row_request;
 use super::rows::{count, fit_row};
 
 // The rows' V, 0 past the last row; which of them are negative, and whether none is or some is not.
-#[derive(Drop)]
+#[derive(Clone, Copy)]
 pub struct Budgets {
     pub values: [i64; 16],
     pub brittle: [bool; 16],

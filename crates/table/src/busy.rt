@@ -10,7 +10,7 @@ use super::rows::count;
 use super::sieve::lag_after;
 
 // The length, 1,000,001 where there is none up to 1,000,000, and how many times the request was summed up to find it.
-#[derive(Drop)]
+#[derive(Clone, Copy)]
 pub struct Busy {
     pub length: u64,
     pub sums: u64,

@@ -17,7 +17,7 @@ use bounded::less;
 
 // Rows with a deadline after some tick, counted by their shares of time, in parts of 2 to the 32nd and rounded up, and by
 // what they are ahead by, since their deadlines come before their periods' ends; and what is due of the others.
-#[derive(Drop)]
+#[derive(Clone, Copy)]
 struct Holding {
     rises: u64,
     leads: u64,

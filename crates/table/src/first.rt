@@ -9,7 +9,7 @@ ghost use Rattle.table.specs.First.{First, narrow_by};
 use super::overload::{Found, search};
 
 // No tick up to floor is exceeded, and at is one that is; with its demand, and the sums so far.
-#[derive(Drop)]
+#[derive(Clone, Copy)]
 struct Range {
     floor: u64,
     at: u64,

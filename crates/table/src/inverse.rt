@@ -31,7 +31,7 @@ pub fn inverses_of(words: &[u32]) -> [u64; 16]
 }
 
 // A row with its period's inverse.
-#[derive(Drop)]
+#[derive(Clone, Copy)]
 pub struct Prepared {
     pub run: u64,
     pub period: u64,

@@ -12,7 +12,7 @@ use super::rows::{count, first_broken};
 use super::settle::settling;
 
 // 1 loose, 2 tight, 3 mixed, 0 refused; and where it is not refused, which rows are brittle.
-#[derive(Drop)]
+#[derive(Clone, Copy)]
 pub struct Kind {
     pub number: u64,
     pub brittle: [bool; 16],

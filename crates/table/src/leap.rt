@@ -15,7 +15,7 @@ use super::rows::count;
 use super::sieve::sieve;
 
 // Rows that recur, counted by their shares of time, in parts of 2 to the 32nd and rounded down; and what the others ask for.
-#[derive(Drop)]
+#[derive(Clone, Copy)]
 struct Filling {
     shares: u64,
     asked: u64,

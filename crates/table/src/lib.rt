@@ -21,7 +21,7 @@ mod settle;
 mod sieve;
 
 // The three kinds of an admitted table, and the four refusals (docs/SPECIFICATION.md §3; `shown_of` gives their numbers).
-#[derive(Drop)]
+#[derive(Clone, Copy)]
 pub enum Verdict {
     Loose { rows: usize },
     Tight { rows: usize },
@@ -37,14 +37,14 @@ pub enum Verdict {
 }
 
 // An opinion: the verdict, and V of each row, 0 past the last row, and in all places where the table is refused.
-#[derive(Drop)]
+#[derive(Clone, Copy)]
 pub struct Judgement {
     pub verdict: Verdict,
     pub budgets: [i64; 16],
 }
 
 // What a reader of numbers sees of a verdict: its number, 0 where the table is admitted, and two values.
-#[derive(Drop)]
+#[derive(Clone, Copy)]
 pub struct Numbers {
     pub number: u64,
     pub first: u64,

@@ -12,7 +12,7 @@ use super::sieve::lag_after;
 
 // A tick and the demand there, which exceeds it; 0 and 0 where no tick of the range has one. And how many times the
 // demand was summed up to find it.
-#[derive(Drop)]
+#[derive(Clone, Copy)]
 pub struct Found {
     pub at: u64,
     pub demand: u64,

@@ -5,7 +5,7 @@ ghost use Rattle.table.specs.Words.{words_with};
 
 // A row: C, the longest run (worst-case execution time); T, the least time between arrivals (period); D, the time from
 // arrival to deadline (relative deadline).
-#[derive(Drop)]
+#[derive(Clone, Copy)]
 pub struct Task {
     pub run: u64,
     pub period: u64,

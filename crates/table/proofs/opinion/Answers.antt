@@ -1,0 +1,15 @@
+use borrow.Author.Rules.{rules}
+use Rattle.table.specs.Opinion.{opinion_cases}
+use Rattle.table.proofs.opinion.Goals as goal
+
+pub returns-then-ill_sized : goal.returns-then-ill_sized
+returns-then-ill_sized c = search (rules, opinion_cases)
+
+pub returns-then-i-count : goal.returns-then-i-count
+returns-then-i-count c = search (rules, opinion_cases)
+
+pub judge-requires : goal.judge-requires
+judge-requires c = search (rules, opinion_cases)
+
+pub returns : goal.returns
+returns c = search (rules, opinion_cases)
