@@ -12,7 +12,7 @@ use session::{Answer, Arrival, Outcome, Session, refuse};
 
 // What is known of the session before each record: whether it is sound, and if so, which of its rows are brittle, and the inverses of
 // its table's periods.
-#[derive(Drop)]
+#[derive(Clone, Copy)]
 pub struct Shared {
     pub sound: bool,
     pub brittle: [bool; 16],

@@ -9,7 +9,7 @@ use lines::write::put_line;
 use table::rows::put_row;
 
 // What the lines so far have led to, besides the rows of the table at hand.
-#[derive(Drop)]
+#[derive(Clone, Copy)]
 pub struct Progress {
     // How many rows it has.
     pub count: usize,

@@ -22,7 +22,7 @@ mod parts;
 const LEAST: usize = 2048;
 
 // Choose's answer, how many words it uses, and the parts of the explanation; no parts where it is refused.
-#[derive(Drop)]
+#[derive(Clone, Copy)]
 pub struct Explained {
     pub answer: Answer,
     pub used: u64,
@@ -30,7 +30,7 @@ pub struct Explained {
 }
 
 // What is said of a text: its length, and how many words choose uses; or the refusal.
-#[derive(Drop)]
+#[derive(Clone, Copy)]
 pub enum Told {
     Text { length: u64, used: u64 },
     // 5: the session is not sound.

@@ -9,7 +9,7 @@ use table::rows::fit_row;
 
 // Of a row: its earliest next release; and its last job's deadline and the ticks that this still has to run. No job of the row
 // waits where `left` is 0.
-#[derive(Drop)]
+#[derive(Clone, Copy)]
 pub struct Slot {
     pub next: u64,
     pub due: u64,
@@ -17,7 +17,7 @@ pub struct Slot {
 }
 
 // What both sides see before a move. Slots past the table's rows have no job.
-#[derive(Drop)]
+#[derive(Clone, Copy)]
 pub struct Board {
     pub clock: u64,
     pub slots: [Slot; 3],

@@ -13,7 +13,7 @@ use table::rows::{count, first_broken};
 mod board;
 mod tree;
 
-#[derive(Drop)]
+#[derive(Clone, Copy)]
 pub enum Finding {
     // Arrivals can force a job unfinished at its deadline.
     Forced,

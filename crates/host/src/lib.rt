@@ -23,7 +23,7 @@ use session::{Arrival, Outcome, Session};
 // An answer in numbers (`shown` gives them): its number, 0 where the call is accepted; the words that a choice used; and
 // two values.
 #[repr(C)]
-#[derive(Drop)]
+#[derive(Clone, Copy)]
 pub struct Reply {
     pub number: u64,
     pub used: u64,
@@ -33,7 +33,7 @@ pub struct Reply {
 
 // An opinion in numbers: its number, 0 where the table is admitted; two values; and V of each row.
 #[repr(C)]
-#[derive(Drop)]
+#[derive(Clone, Copy)]
 pub struct Judgement {
     pub number: u64,
     pub first: u64,

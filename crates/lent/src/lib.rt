@@ -17,14 +17,14 @@ use session::{Answer, Arrival, Outcome, Session};
 use table::Verdict;
 
 // What the host sees of a call: the answer, and how many words a choice used.
-#[derive(Drop)]
+#[derive(Clone, Copy)]
 pub struct Reply {
     pub answer: Answer,
     pub used: u64,
 }
 
 // What it sees of a start: the verdict of the opinion on the table.
-#[derive(Drop)]
+#[derive(Clone, Copy)]
 pub struct Opening {
     pub verdict: Verdict,
 }

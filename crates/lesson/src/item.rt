@@ -8,7 +8,7 @@ ghost use Rattle.lesson.specs.Read.{Took};
 use decimal::read::{Number, read_number};
 use lines::read::{Line, place, read_line};
 
-#[derive(Drop)]
+#[derive(Clone, Copy)]
 pub enum Item {
     // `T`: a row of the table, C, T and D.
     Row {
@@ -71,7 +71,7 @@ fn read_item(line: &[u8]) -> Item
 }
 
 // A line, and the place past its newline.
-#[derive(Drop)]
+#[derive(Clone, Copy)]
 pub struct Next {
     pub item: Item,
     pub at: usize,

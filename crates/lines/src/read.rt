@@ -7,7 +7,7 @@ ghost use Rattle.lines.specs.Lines.{Took};
 
 use decimal::read::{Number, read_number};
 
-#[derive(Drop)]
+#[derive(Clone, Copy)]
 pub enum Call {
     // `A`: a job of this row arrives.
     Arrive(u32),
@@ -19,7 +19,7 @@ pub enum Call {
     Finish,
 }
 
-#[derive(Drop)]
+#[derive(Clone, Copy)]
 pub enum Line {
     // `T`: a row of the table, C, T and D.
     Row {
@@ -143,7 +143,7 @@ pub fn read_line(line: &[u8]) -> Line
 }
 
 // A line, and the place past its newline.
-#[derive(Drop)]
+#[derive(Clone, Copy)]
 pub struct Next {
     pub line: Line,
     pub at: usize,

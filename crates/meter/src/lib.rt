@@ -15,7 +15,7 @@ pub mod log;
 
 // K stretches of L ticks, and when two of them are alike at a tick: if their intervals of `window` ticks from there on differ
 // in at most `threshold` ticks.
-#[derive(Drop)]
+#[derive(Clone, Copy)]
 pub struct Shape {
     pub stretches: usize,
     pub ticks: usize,
@@ -23,7 +23,7 @@ pub struct Shape {
     pub threshold: u64,
 }
 
-#[derive(Drop)]
+#[derive(Clone, Copy)]
 pub enum Meter {
     Of(u64),
     // 14: K, L, m or the slice's length breaks the rule.

@@ -11,7 +11,7 @@ use wording::Parts;
 mod parts;
 
 // The parts; where the bytes are no text, they hold no job, no optional number, and 0 elsewhere.
-#[derive(Drop)]
+#[derive(Clone, Copy)]
 pub struct Reading {
     pub found: bool,
     pub parts: Parts,

@@ -9,31 +9,31 @@ ghost use Rattle.reader.specs.Took.{Took, number_at, job_at, jobs_at, brittle_at
 use wording::{Cause, Held, Optional, Parts};
 
 // What was read, and the place past it.
-#[derive(Drop)]
+#[derive(Clone, Copy)]
 pub struct FoundNumber {
     pub value: u64,
     pub at: usize,
 }
 
-#[derive(Drop)]
+#[derive(Clone, Copy)]
 pub struct FoundFlag {
     pub flag: bool,
     pub at: usize,
 }
 
-#[derive(Drop)]
+#[derive(Clone, Copy)]
 pub struct FoundOptional {
     pub value: Optional,
     pub at: usize,
 }
 
-#[derive(Drop)]
+#[derive(Clone, Copy)]
 pub struct FoundJob {
     pub job: Held,
     pub at: usize,
 }
 
-#[derive(Drop)]
+#[derive(Clone, Copy)]
 pub struct FoundJobs {
     pub jobs: [Held; 16],
     pub at: usize,

@@ -16,7 +16,7 @@ use table::rows::wide;
 use transcript::step::{Play, call, passed};
 
 // What the lines so far have led to: the session, the words and the text, and of each row the inversion ticks of its waiting job.
-#[derive(Drop)]
+#[derive(Clone, Copy)]
 pub struct Notes {
     pub session: Session,
     pub play: Play,

@@ -12,7 +12,7 @@ pub mod start;
 // A row's earliest next arrival; and its waiting job's deadline, remaining ticks and budget left (the remaining inversion
 // budget). No job of the row waits where `left` is 0: nothing looks at `due` and `budget` then, and a call leaves 0 there.
 #[repr(C)]
-#[derive(Drop)]
+#[derive(Clone, Copy)]
 pub struct Job {
     pub next: u64,
     pub due: u64,
@@ -22,7 +22,7 @@ pub struct Job {
 
 // Numbers only, so that every content of its memory is a session.
 #[repr(C)]
-#[derive(Drop)]
+#[derive(Clone, Copy)]
 pub struct Session {
     pub clock: u64,
     // 1 loose, 2 tight, 3 mixed.
@@ -38,7 +38,7 @@ pub struct Session {
 }
 
 // What a call answers (§5.7; `show` gives the number and two values of each).
-#[derive(Drop)]
+#[derive(Clone, Copy)]
 pub enum Answer {
     Arrived { row: u64, due: u64 },
     Chosen { row: u64, span: u64 },
@@ -64,7 +64,7 @@ pub enum Answer {
 
 // What a reader of numbers sees of an answer: its number, 0 where the call is accepted, and two values.
 #[repr(C)]
-#[derive(Drop)]
+#[derive(Clone, Copy)]
 pub struct Numbers {
     pub number: u64,
     pub first: u64,
@@ -73,7 +73,7 @@ pub struct Numbers {
 
 // A row whose job arrives, and the place for the answer: its number and two values, as `show` gives them.
 #[repr(C)]
-#[derive(Drop)]
+#[derive(Clone, Copy)]
 pub struct Arrival {
     pub row: u64,
     pub number: u64,
@@ -112,7 +112,7 @@ pub fn show(answer: Answer) -> Numbers
 
 // The answer, the session that the call leaves, and how many words a choice used. In this order a batch copies the session
 // once less for each record.
-#[derive(Drop)]
+#[derive(Clone, Copy)]
 pub struct Outcome {
     pub answer: Answer,
     pub session: Session,

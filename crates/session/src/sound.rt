@@ -150,7 +150,7 @@ fn jobs_sound(s: Session, brittle: [bool; 16]) -> bool
 }
 
 // Whether a session is sound, and if so, which of its rows are brittle, so that a call need not work that out again.
-#[derive(Drop)]
+#[derive(Clone, Copy)]
 pub struct Check {
     pub sound: bool,
     pub brittle: [bool; 16],

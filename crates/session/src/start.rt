@@ -8,7 +8,7 @@ use super::Session;
 use table::Verdict;
 
 // The verdict of the opinion on the table, and the session that the start leaves.
-#[derive(Drop)]
+#[derive(Clone, Copy)]
 pub struct Started {
     pub verdict: Verdict,
     pub session: Session,

@@ -10,7 +10,7 @@ use session::start::start_by;
 use table::Verdict;
 
 // What the lines up to a place of the text have led to.
-#[derive(Drop)]
+#[derive(Clone, Copy)]
 pub struct State {
     pub session: Session,
     pub play: Play,
@@ -19,7 +19,7 @@ pub struct State {
 }
 
 // The table of a text, the verdict on it, and how many bytes are written.
-#[derive(Drop)]
+#[derive(Clone, Copy)]
 pub struct Judged {
     pub rows: Rows,
     pub verdict: Verdict,

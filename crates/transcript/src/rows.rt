@@ -6,7 +6,7 @@ ghost use Rattle.transcript.specs.Table.{Stated, with_row};
 use lines::read::{Line, next_line};
 
 // The rows, three numbers to each; how many there are; and the place of the line after them.
-#[derive(Drop)]
+#[derive(Clone, Copy)]
 pub struct Rows {
     pub words: [u32; 48],
     pub count: usize,

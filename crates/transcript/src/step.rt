@@ -11,7 +11,7 @@ use session::{Answer, Outcome, Session};
 use table::rows::wide;
 
 // What the lines so far have led to, besides the session.
-#[derive(Drop)]
+#[derive(Clone, Copy)]
 pub struct Play {
     // Of all words queued so far, those from place `from` up to place `to` wait.
     pub from: usize,
@@ -25,7 +25,7 @@ pub struct Play {
 }
 
 // What a line leads to.
-#[derive(Drop)]
+#[derive(Clone, Copy)]
 pub struct Stepped {
     pub session: Session,
     pub play: Play,

@@ -53,7 +53,7 @@ fn listing() {
 }
 
 // A walk so far.
-#[derive(Drop)]
+#[derive(Clone, Copy)]
 pub struct Walk {
     pub session: Session,
     pub seed: u32,

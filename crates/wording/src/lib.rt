@@ -7,7 +7,7 @@ ghost use Rattle.wording.specs.Explanation.{no_parts};
 pub mod text;
 
 // A waiting job: its row, deadline and budget, and whether it was a candidate.
-#[derive(Drop)]
+#[derive(Clone, Copy)]
 pub struct Held {
     pub row: u64,
     pub due: u64,
@@ -16,14 +16,14 @@ pub struct Held {
 }
 
 // A number, or none.
-#[derive(Drop)]
+#[derive(Clone, Copy)]
 pub enum Optional {
     None,
     Of(u64),
 }
 
 // What set a span: the remaining ticks, a word, the lack of a word, or that nothing waits.
-#[derive(Drop)]
+#[derive(Clone, Copy)]
 pub enum Cause {
     Remaining,
     Word,
@@ -33,7 +33,7 @@ pub enum Cause {
 
 // What an explanation holds: the waiting jobs in order, in the first `count` places; in a mixed session the brittle deadline;
 // the chosen row, 16 for idle; the deciding word or none; the span, and what set it. The places past `count` are all 0.
-#[derive(Drop)]
+#[derive(Clone, Copy)]
 pub struct Parts {
     pub jobs: [Held; 16],
     pub count: usize,

@@ -14,7 +14,7 @@ use lines::read::{Call, Line};
 use session::Session;
 
 // What the lines so far have led to, besides the session.
-#[derive(Drop)]
+#[derive(Clone, Copy)]
 pub struct Progress {
     // Of all words queued so far, those from place `from` up to place `to` wait.
     pub from: usize,

@@ -7,7 +7,7 @@ use lines::read::Line;
 use transcript::rows::{Rows, with_row};
 
 // A row: C, T and D.
-#[derive(Drop)]
+#[derive(Clone, Copy)]
 pub struct Row {
     pub run: u32,
     pub period: u32,

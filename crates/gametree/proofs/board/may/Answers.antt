@@ -1,0 +1,9 @@
+use Rattle.gametree.specs.Code.{may_cases}
+use borrow.Author.Rules.{rules}
+use Rattle.gametree.proofs.board.may.Goals as goal
+
+pub returns-then-m-ge3 : goal.returns-then-m-ge3
+returns-then-m-ge3 c = search (rules, may_cases)
+
+pub returns : goal.returns
+returns c = search (rules, may_cases)

@@ -1,0 +1,46 @@
+use Rattle.std.proofs.Common.{arith, length, sym, ◌≡◌}
+use Rattle.std.proofs.Math.Seq.{length-take-le}
+use borrow.Author.Rules.{rules}
+use Rattle.session.specs.Reading.{rows_of}
+use Rattle.session.specs.Soundness.{check_ready, check_cases}
+use Rattle.session.proofs.sound.check_of.Goals as goal
+
+pub returns-then-count-gt-ROWS : goal.returns-then-count-gt-ROWS
+unfolding rows_of
+returns-then-count-gt-ROWS c = search (rules, check_cases)
+
+pub slice_bounds-words-end : goal.slice_bounds-words-end
+slice_bounds-words-end c = let e : length c.args.s.words ≡ 48 = search rules in omega arith
+
+pub slice_bounds-kind_of-end : goal.slice_bounds-kind_of-end
+slice_bounds-kind_of-end c =
+    let e : length c.args.s.words ≡ 48 = search rules in
+    sym (length-take-le _ _ (omega arith))
+
+pub returns-then-k-eq0 : goal.returns-then-k-eq0
+unfolding rows_of
+returns-then-k-eq0 c = search (rules, check_cases)
+
+pub returns-then-k-s : goal.returns-then-k-s
+unfolding rows_of
+returns-then-k-s c = search (rules, check_cases)
+
+pub returns-then-s-gt-CLOCK_END : goal.returns-then-s-gt-CLOCK_END
+unfolding rows_of
+returns-then-s-gt-CLOCK_END c = search (rules, check_cases)
+
+pub jobs_sound-requires : goal.jobs_sound-requires
+unfolding rows_of
+jobs_sound-requires c =
+    let e : length c.args.s.words ≡ 48 = search rules in
+    search (rules, check_ready)
+
+pub returns-then-jobs_sound : goal.returns-then-jobs_sound
+unfolding rows_of
+returns-then-jobs_sound c =
+    let e : length c.args.s.words ≡ 48 = search rules in
+    search (rules, check_cases)
+
+pub returns : goal.returns
+unfolding rows_of
+returns c = search (rules, check_cases)

@@ -1,0 +1,17 @@
+use Rattle.std.proofs.Common.{◌-◌}
+use borrow.Author.Rules.{rules}
+use Rattle.bounded.specs.All.{all_laws}
+use Rattle.session.specs.Soundness.{affords_row}
+use Rattle.session.proofs.sound.covered.Goals as goal
+
+pub loop-i-init : goal.loop-i-init
+loop-i-init c = search (rules, affords_row, all_laws)
+
+pub loop-i-preserved : goal.loop-i-preserved
+loop-i-preserved c = search (rules, affords_row, all_laws)
+
+pub returns-else-covers : goal.returns-else-covers
+returns-else-covers c = search (rules, affords_row, all_laws)
+
+pub returns : goal.returns
+returns c = search (rules, affords_row, all_laws)
