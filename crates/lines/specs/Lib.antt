@@ -1,3 +1,4 @@
+pub mod Index
 pub mod Parted
 pub mod Line
 pub mod Code

@@ -7,7 +7,7 @@ use native.Mathlib.Omega.{arith}
 use Rattle.bounded.specs.Tests.{both}
 use Rattle.std.proofs.Math.ListN.{length, drop, length-drop}
 use Rattle.std.proofs.Math.Seq.{drop-drop, drop-length, length-take-le}
-use Rattle.bytes.specs.Bytes.{index_of}
+use Rattle.lines.specs.Index.{index_of}
 use Rattle.decimal.specs.declared.read.Number.{Number}
 use Rattle.decimal.specs.declared.read.Number.TheVariants.{Of, None}
 use Rattle.decimal.specs.Number.{plain, number_of}

@@ -2,7 +2,7 @@
 use Rattle.std.specs.Prelude.{ℕ, suc, ◌+◌, ◌-◌, ◌≤◌, ◌<◌, ◌≡◌, refl, cond, List, [], ◌∷◌, eqb, length, take, drop}
 use Rattle.std.proofs.Common.{◌∙◌, add-one, arith, length-drop, take_all}
 use Rattle.std.proofs.Math.Seq.{take-length}
-use Rattle.bytes.specs.Bytes.{index_of, index_after, slice}
+use Rattle.lines.specs.Index.{index_of, index_after, slice}
 use Rattle.bounded.specs.Tests.{both}
 
 abbrev pub on_first : ℕ → List (List ℕ) → List (List ℕ)

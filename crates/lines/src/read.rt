@@ -39,7 +39,7 @@ pub enum Line {
 pub fn place(s: &[u8], b: u8) -> usize
     ensures { Place b s.now result }
 {
-    bytes::scan::find(s, 0, s.len(), b)
+    crate::scan::find(s, 0, s.len(), b)
 }
 
 fn bare(c: u8) -> Line

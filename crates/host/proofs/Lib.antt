@@ -1,2 +1,0 @@
-mod Result
-mod Read

@@ -1,0 +1,6 @@
+use borrow.Author.Rules.{rules}
+use Rattle.lines.specs.Input.{piece_laws}
+use Rattle.lines.proofs.input.put_bare.Goals as goal
+
+pub returns : goal.returns
+returns c = search (rules, piece_laws)

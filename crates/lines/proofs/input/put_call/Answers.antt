@@ -1,0 +1,15 @@
+use borrow.Author.Rules.{rules}
+use Rattle.lines.specs.Input.{call_written}
+use Rattle.lines.proofs.input.put_call.Goals as goal
+
+pub returns-in-Arrive : goal.returns-in-Arrive
+returns-in-Arrive c = search (rules, call_written)
+
+pub returns-in-Choose : goal.returns-in-Choose
+returns-in-Choose c = search (rules, call_written)
+
+pub returns-in-Advance : goal.returns-in-Advance
+returns-in-Advance c = search (rules, call_written)
+
+pub returns-in-Finish : goal.returns-in-Finish
+returns-in-Finish c = search (rules, call_written)

@@ -1,3 +1,0 @@
-pub mod Data
-pub mod Records
-pub mod Need
