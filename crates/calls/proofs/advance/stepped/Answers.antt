@@ -1,0 +1,16 @@
+use Rattle.std.proofs.Common.{◌-◌}
+use borrow.Author.Rules.{rules}
+use Rattle.session.specs.Jobs.{done_start}
+use Rattle.calls.specs.Code.{aged_next, stepped_is}
+use Rattle.calls.proofs.advance.stepped.Goals as goal
+
+pub loop-i-init : goal.loop-i-init
+loop-i-init c = search (rules, done_start)
+
+pub loop-i-preserved : goal.loop-i-preserved
+loop-i-preserved c =
+    let a = c in
+    (search rules, aged_next _ _ _ _ _ _ c.loop-i.invariant.1 a.requires.bounds c.place_of-at.ensures.is c.aged_job.ensures)
+
+pub returns : goal.returns
+returns c = search (rules, stepped_is)

@@ -1,0 +1,112 @@
+use Rattle.std.proofs.Common.{arith, length, refl, sym, ◌-◌, ◌<◌, ◌≡◌}
+use Rattle.std.proofs.Math.Seq.{length-take-le}
+use borrow.Author.Rules.{rules}
+use Rattle.bounded.specs.Sum.{sum_start}
+use Rattle.table.specs.Inverse.{tame_of}
+use Rattle.session.specs.Reading.{rows_of}
+use Rattle.session.specs.Facts.{facts_of}
+use Rattle.calls.specs.Code.{places, place_fits, facts_rows, arrive_cases}
+use Rattle.calls.specs.Code.{asked_laws, asked_done, asked_fit, asked_row, asked_left, asked_clock, asked_run, asked_deadline, asked_period, asked_next, asked_small, asked_most, asked_few}
+use Rattle.calls.proofs.arrive.arrive_marked.Goals as goal
+
+pub returns-then-count-row : goal.returns-then-count-row
+returns-then-count-row c = search (rules, arrive_cases)
+
+pub offset_bounds-q-i : goal.offset_bounds-q-i
+offset_bounds-q-i c = search (rules, places)
+
+pub bounds-q-i : goal.bounds-q-i
+bounds-q-i c = search (rules, places)
+
+pub returns-then-clock-old : goal.returns-then-clock-old
+returns-then-clock-old c = search (rules, arrive_cases)
+
+pub overflow_mul-e : goal.overflow_mul-e
+overflow_mul-e c = let a = c in let f = facts_of _ a.requires.0 in record { fits = omega (arith, f.few) }
+
+pub slice_bounds-words-end : goal.slice_bounds-words-end
+slice_bounds-words-end c =
+    let a = c in
+    let e : length a.args.s.words ≡ 48 = search rules in
+    let f = facts_of _ a.requires.0 in
+    omega (arith, f.few)
+
+pub slice_bounds-rows-end : goal.slice_bounds-rows-end
+slice_bounds-rows-end c =
+    let a = c in
+    let e : length a.args.s.words ≡ 48 = search rules in
+    let f = facts_of _ a.requires.0 in
+    sym (length-take-le _ _ (omega (arith, f.few)))
+
+pub fit_row-k-requires : goal.fit_row-k-requires
+unfolding rows_of
+fit_row-k-requires c =
+    let a = c in
+    let e : length a.args.s.words ≡ 48 = search rules in
+    facts_rows a.args.s a.args.row (facts_of _ a.requires.0) e (search rules)
+
+pub bounds-brittle-i : goal.bounds-brittle-i
+bounds-brittle-i c = search (rules, places)
+
+pub loop-j-init : goal.loop-j-init
+unfolding rows_of
+loop-j-init c =
+    let a = c in
+    let l : a.args.row < a.args.s.count = search rules in (
+      record {
+        sound = a.requires.0;
+        places = search rules;
+        table = refl;
+        mark = a.requires.1.at l;
+        task = search rules;
+        now = refl;
+        looked = search rules;
+        known = l;
+        ready = search rules;
+      },
+      search rules,
+      sum_start _,
+      search rules,
+    )
+
+pub prepare_alone-p-requires : goal.prepare_alone-p-requires
+prepare_alone-p-requires c = let h = c.loop-j.invariant in (asked_fit h.0, asked_row h.0 _ (search rules))
+
+pub offset_bounds-q-j : goal.offset_bounds-q-j
+offset_bounds-q-j c = search (rules, asked_laws, place_fits)
+
+pub bounds-q-j : goal.bounds-q-j
+bounds-q-j c = search (rules, asked_laws)
+
+pub charge-asked-requires : goal.charge-asked-requires
+charge-asked-requires c =
+    let k = c.loop-j.invariant.0 in (search (rules, tame_of), asked_left k _ (search rules), asked_clock k, asked_deadline k)
+
+pub overflow_add-asked : goal.overflow_add-asked
+overflow_add-asked c = search (rules, asked_laws)
+
+pub loop-j-preserved : goal.loop-j-preserved
+loop-j-preserved c =
+    let k = c.loop-j.invariant.0 in
+    let f = c.prepare_alone-p.ensures in
+    let w = c.charge-asked.ensures in
+    let h = c.loop-j.invariant in
+    (k, search rules, asked_next k _ (search rules) _ _ _ f w h.2, asked_small k _ (search rules) _ _ _ f w h.3)
+
+pub bounds-brittle-i-2 : goal.bounds-brittle-i-2
+bounds-brittle-i-2 c = search (rules, places)
+
+pub arriving-job-requires : goal.arriving-job-requires
+arriving-job-requires c =
+    let k = c.loop-j.invariant.0 in
+    (asked_run k, asked_deadline k, asked_period k, asked_clock k, asked_most k _ _ c.loop-j.invariant.3 c.loop-j.invariant.1)
+
+pub offset_bounds-q-i-2 : goal.offset_bounds-q-i-2
+offset_bounds-q-i-2 c = let k = c.loop-j.invariant.0 in place_fits _ (omega (arith, k.known, asked_few k))
+
+pub bounds-q-i-2 : goal.bounds-q-i-2
+bounds-q-i-2 c = search (rules, places)
+
+pub returns : goal.returns
+returns c =
+    let h = c.loop-j.invariant in asked_done h.0 _ _ h.3 h.1 _ (search rules) h.2 (search rules)

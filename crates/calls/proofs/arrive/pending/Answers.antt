@@ -1,0 +1,9 @@
+use borrow.Author.Rules.{rules}
+use Rattle.calls.specs.Code.{pending_cases}
+use Rattle.calls.proofs.arrive.pending.Goals as goal
+
+pub returns-then-d-j : goal.returns-then-d-j
+returns-then-d-j c = search (rules, pending_cases)
+
+pub returns : goal.returns
+returns c = search (rules, pending_cases)

@@ -1,0 +1,9 @@
+use borrow.Author.Rules.{rules}
+use Rattle.meter.specs.Power.{eighths_laws}
+use Rattle.meter.proofs.log.eighths.Goals as goal
+
+pub highest_one-requires : goal.highest_one-requires
+highest_one-requires c = search (rules, eighths_laws)
+
+pub returns : goal.returns
+returns c = search (rules, eighths_laws)
