@@ -35,7 +35,9 @@ module _ (τ : TaskSet) (P : Ledger → List ℕ → Session → Type 0)
       → P (ledger_from τ g (map record_event (answered_all s rs))) (counts_from τ g cs (map record_event (answered_all s rs))) (after_all s rs)
   unfolding ledger_from counts_from after_all answered_all
   after_all_lem g cs s p [] = p
-  after_all_lem g cs s p (a ∷ rs) = after_all_lem _ _ (arrive_of s a.row).session (step g cs s p (arrive a.row)) rs
+  after_all_lem g cs s p (a ∷ rs) =
+      after_all_lem (kept τ g (event_of s (arrive a.row))) (counts_after τ g cs (event_of s (arrive a.row))) (arrive_of s a.row).session
+      (step g cs s p (arrive a.row)) rs
 
   after_by : (g : Ledger) (cs : List ℕ) (s : Session) → P g cs s → (c : HostCall)
       → P (ledger_from τ g (events_by s c)) (counts_from τ g cs (events_by s c)) (session_by s c)
@@ -49,4 +51,4 @@ module _ (τ : TaskSet) (P : Ledger → List ℕ → Session → Type 0)
   after_calls g cs s p [] = p
   after_calls g cs s p (c ∷ calls) =
       rw (ledger_more τ g (events_by s c) (events_of (session_by s c) calls), counts_more τ g cs (events_by s c) (events_of (session_by s c) calls))
-      (after_calls _ _ (session_by s c) (after_by g cs s p c) calls)
+      (after_calls (ledger_from τ g (events_by s c)) (counts_from τ g cs (events_by s c)) (session_by s c) (after_by g cs s p c) calls)

@@ -39,7 +39,7 @@ unfolding after_all
 good_all l s g [] = g
 good_all l s g (a ∷ rs) = good_all l (arrive_of s a.row).session (good_call l s g (arrive a.row)) rs
 
-good_by : (l : List ℕ) (s : Session) → Good l s → (c : HostCall) → Good l (session_by s c)
+pub good_by : (l : List ℕ) (s : Session) → Good l s → (c : HostCall) → Good l (session_by s c)
 good_by l s g (single c) = good_call l s g c
 good_by l s g (batch rs) = good_all l s g rs
 

@@ -1,0 +1,6 @@
+use borrow.Author.Rules.{rules}
+use Rattle.report.specs.Whole.{room_of_least}
+use Rattle.desk.proofs.room_for.Goals as goal
+
+pub returns : goal.returns
+returns c = search (rules, room_of_least)

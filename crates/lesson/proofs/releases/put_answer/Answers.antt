@@ -1,0 +1,18 @@
+use Rattle.lesson.specs.Put.{answer_cases}
+use borrow.Author.Rules.{rules}
+use Rattle.lesson.proofs.releases.put_answer.Goals as goal
+
+pub first_over-requires : goal.first_over-requires
+first_over-requires c = search (rules, answer_cases)
+
+pub put_releases-requires : goal.put_releases-requires
+put_releases-requires c = search (rules, answer_cases)
+
+pub returns-in-Forced : goal.returns-in-Forced
+returns-in-Forced c = search (rules, answer_cases)
+
+pub returns-in-Held : goal.returns-in-Held
+returns-in-Held c = search (rules, answer_cases)
+
+pub returns-in-Refused : goal.returns-in-Refused
+returns-in-Refused c = search (rules, answer_cases)

@@ -1,0 +1,14 @@
+use Rattle.std.proofs.Common.{◌-◌}
+use borrow.Author.Rules.{rules}
+use Rattle.reader.specs.Code.{jobs_cases, jobs_next}
+use Rattle.reader.proofs.parts.read_jobs.Goals as goal
+
+pub loop-i-init : goal.loop-i-init
+loop-i-init c = search (rules, jobs_cases)
+
+pub loop-i-preserved : goal.loop-i-preserved
+loop-i-preserved c =
+    (search rules, jobs_next _ _ _ _ _ _ _ (search rules) c.loop-i.invariant.1 c.read_job-f.ensures)
+
+pub returns : goal.returns
+returns c = search (rules, jobs_cases)
