@@ -225,7 +225,7 @@ from_once l e g cs s r q n (x ∷ m) =
     let y = note_of (tasks_of l) g cs s q n x in
     both (step_of s q n x).ends
     (λ t. simp t (omega (arith, o, jobs_more y.items (pending_items (tasks_of l) y.ledger y.counts), pending_all l _ _ _ w, open_closed y.ledger.entries)))
-    (λ t. simp t (omega (arith, o, jobs_more y.items (items_from (tasks_of l) y.ledger y.counts (step_of s q n x).session (step_of s q n x).queue (suc n) m), from_once l e _ _ _ w (step_of s q n x).queue (suc n) m)))
+    (λ t. simp t (omega (arith, o, jobs_more y.items (items_from (tasks_of l) y.ledger y.counts (step_of s q n x).session (step_of s q n x).queue (suc n) m), from_once l e y.ledger y.counts (step_of s q n x).session w (step_of s q n x).queue (suc n) m)))
 
 pub each_job_once : EachJobOnce
 unfolding items_of closed_in

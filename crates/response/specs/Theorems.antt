@@ -209,8 +209,10 @@ unfolding items_from
 from_within l e g cs s r q n [] = pendings_within l e g cs s r
 from_within l e g cs s r q n (x ∷ m) =
     let w = note_within l e q n g cs s r x in
-    all_more (note_of (tasks_of l) g cs s q n x).items _ w.0
-    (both (step_of s q n x).ends (λ t. simp t (pendings_within l e _ _ _ w.1)) (λ t. simp t (from_within l e _ _ _ w.1 _ _ m)))
+    let y = note_of (tasks_of l) g cs s q n x in
+    all_more y.items _ w.0
+    (both (step_of s q n x).ends (λ t. simp t (pendings_within l e _ _ _ w.1))
+    (λ t. simp t (from_within l e y.ledger y.counts (step_of s q n x).session w.1 (step_of s q n x).queue (suc n) m)))
 
 pub printed_within : PrintedWithin
 unfolding items_of

@@ -103,7 +103,7 @@ accepted_row : {s s' : Session} {a : Answer} (k : ℕ) → Effect s (arrive k) s
 accepted_row k (refusal a six) z = absurd (omega arith)
 accepted_row k (arrived i row ready) z = row
 
-accepted_ticks : {s s' : Session} {a : Answer} (n : ℕ) → Effect s (advance n) s' a → (shown a).number ≡ 0 → Choice s × (n ≤ s.span)
+accepted_ticks : {s : Session} (n : ℕ) {s' : Session} {a : Answer} → Effect s (advance n) s' a → (shown a).number ≡ 0 → Choice s × (n ≤ s.span)
 accepted_ticks n (refusal a six) z = absurd (omega arith)
 accepted_ticks n (advanced m ch high end) z = (ch, high)
 

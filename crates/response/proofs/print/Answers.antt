@@ -1,0 +1,17 @@
+use Rattle.std.proofs.Common.{arith, sym}
+use Rattle.std.proofs.Math.Seq.{length-take-le}
+use Rattle.response.specs.Entry.{print_laws}
+use borrow.Author.Rules.{rules}
+use Rattle.response.proofs.print.Goals as goal
+
+pub slice_bounds-put_besides-end : goal.slice_bounds-put_besides-end
+slice_bounds-put_besides-end c = sym (length-take-le _ _ (omega arith))
+
+pub put_besides-requires : goal.put_besides-requires
+put_besides-requires c = search (rules, print_laws)
+
+pub returns-then-n-ne0 : goal.returns-then-n-ne0
+returns-then-n-ne0 c = search (rules, print_laws)
+
+pub returns : goal.returns
+returns c = search (rules, print_laws)

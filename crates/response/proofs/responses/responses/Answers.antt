@@ -1,0 +1,40 @@
+use Rattle.std.proofs.Common.{◌-◌}
+use Rattle.response.specs.Responses.{responses_laws}
+use borrow.Author.Rules.{rules}
+use Rattle.response.proofs.responses.responses.Goals as goal
+
+pub inverses_of-inverses-requires : goal.inverses_of-inverses-requires
+inverses_of-inverses-requires c = search (rules, responses_laws)
+
+pub count-rows-requires : goal.count-rows-requires
+count-rows-requires c = search (rules, responses_laws)
+
+pub loop-i-init : goal.loop-i-init
+loop-i-init c = search (rules, responses_laws)
+
+pub fit_row-k-requires : goal.fit_row-k-requires
+fit_row-k-requires c = search (rules, responses_laws)
+
+pub interfering-requires : goal.interfering-requires
+interfering-requires c = search (rules, responses_laws)
+
+pub overflow_add-spans : goal.overflow_add-spans
+overflow_add-spans c = search (rules, responses_laws)
+
+pub offset_bounds-spans-i : goal.offset_bounds-spans-i
+offset_bounds-spans-i c = search (rules, responses_laws)
+
+pub bounds-spans-i : goal.bounds-spans-i
+bounds-spans-i c = search (rules, responses_laws)
+
+pub overflow_add-i : goal.overflow_add-i
+overflow_add-i c = search (rules, responses_laws)
+
+pub loop-i-smaller : goal.loop-i-smaller
+loop-i-smaller c = search (rules, responses_laws)
+
+pub loop-i-preserved : goal.loop-i-preserved
+loop-i-preserved c = search (rules, responses_laws)
+
+pub returns : goal.returns
+returns c = search (rules, responses_laws)

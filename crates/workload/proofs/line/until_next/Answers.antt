@@ -1,0 +1,30 @@
+use Rattle.std.proofs.Common.{◌-◌, rules}
+use Rattle.workload.specs.Line.{until_laws}
+use Rattle.workload.proofs.line.until_next.Goals as goal
+
+pub loop-i-init : goal.loop-i-init
+loop-i-init c = search (rules, until_laws)
+
+pub offset_bounds-s-i : goal.offset_bounds-s-i
+offset_bounds-s-i c = search (rules, until_laws)
+
+pub bounds-s-i : goal.bounds-s-i
+bounds-s-i c = search (rules, until_laws)
+
+pub less-requires : goal.less-requires
+less-requires c = search (rules, until_laws)
+
+pub lesser-m-requires : goal.lesser-m-requires
+lesser-m-requires c = search (rules, until_laws)
+
+pub overflow_add-i : goal.overflow_add-i
+overflow_add-i c = search (rules, until_laws)
+
+pub loop-i-smaller : goal.loop-i-smaller
+loop-i-smaller c = search (rules, until_laws)
+
+pub loop-i-preserved : goal.loop-i-preserved
+loop-i-preserved c = search (rules, until_laws)
+
+pub returns : goal.returns
+returns c = search (rules, until_laws)
