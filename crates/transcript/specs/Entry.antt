@@ -55,6 +55,6 @@ pub entry_printed : (input text before after : List ℕ) (k n r : ℕ) → k ≡
     → text ≡ take n input → Wrote (room_of text) (printed_of (lines_of text)) before after 0 r → Transcribed input before after r
 unfolding output_of
 entry_printed input text before after k n r d h e f p =
-    filled_printed input_limit input n e 1564 22 k r (λ (x : List ℕ). printed_of (lines_of x)) text before after d h f p
+    filled_printed input_limit input n e 22 k r (λ (x : List ℕ). printed_of (lines_of x)) text before after d h f p
 
 pub ruleset entry_cases = (filled_short, read_limit, room_kept, entry_printed)
