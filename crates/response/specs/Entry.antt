@@ -17,7 +17,8 @@ use Rattle.transcript.specs.declared.opening.Judged.{Judged}
 use Rattle.transcript.specs.declared.opening.State.{State}
 use Rattle.transcript.specs.Transcript.{input_limit, row_limit, rows_in}
 use Rattle.transcript.specs.Table.{Stated}
-use Rattle.transcript.specs.Opening.{opinion_in, calls_by, table_in, Startable, started_by, Judges, Opens, judged_startable, started_opens, opens_admitted}
+use Rattle.transcript.specs.Opening.{opinion_in}
+use Rattle.transcript.specs.Opens.{calls_by, table_in, Startable, started_by, Judges, Opens, judged_startable, started_opens, opens_admitted}
 use Rattle.response.specs.Jobs.{items_text}
 use Rattle.response.specs.Plan.{besides_text, items_from, items_of, printed_of, planned_of, room_for, Planned}
 use Rattle.response.specs.Opening.{Refusal, refusal_of}
