@@ -1,7 +1,7 @@
 -- The output a part at a time: what the code of src/lib.rt keeps, and its cases. Assumes nothing.
 use Rattle.std.specs.Prelude.{ℕ, suc, ◌+◌, ◌-◌, ◌≤◌, ◌<◌, ◌≡◌, Bool, ◌⊎◌, ltb, take, drop}
 use Rattle.std.proofs.Math.Path.{refl, ap}
-use Rattle.std.proofs.Common.{sym, ◌∙◌, true≢false, inl, inr, ⊎_elim, add-one, arith, length-append, length-take, take_at, take_all}
+use Rattle.std.proofs.Common.{sym, ◌∙◌, true≢false, inl, inr, ⊎_elim, add-one, append-nil, arith, length-append, length-take, take_at, take_all}
 use Rattle.std.proofs.Math.Bool.{true, false, cond}
 use mathlib.Core.List.{List, [], ◌++◌, append_assoc}
 use Rattle.std.proofs.Math.ListN.{length}
@@ -280,8 +280,8 @@ begun text t r before after limit room o e =
     record {
       output = λ words.
           all ∙ both t.play.over
-          (λ f. rw (opened_refused text t before after o narrated_lines f, closed_end text t r words e, front, closed_owed text t r words e o.place, f))
-          (λ f. rw (opened_admitted text t before after o narrated_lines f, closed_end text t r words e, front, closed_owed text t r words e o.place, f, o.from, o.to));
+          (λ f. opened_refused text t before after o narrated_lines f ∙ rw (closed_end text t r words e, front, closed_owed text t r words e o.place, f) (sym (append-nil printed)))
+          (λ f. opened_admitted text t before after o narrated_lines f ∙ rw (closed_end text t r words e, front, closed_owed text t r words e o.place, f, o.from, o.to));
       fits =
           omega (arith, closed_end text t r [] e, o.wrote.place, h, wrote_length 1478 printed before after 0 t.play.end h o.wrote);
       going = λ words places.
