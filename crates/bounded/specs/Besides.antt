@@ -10,11 +10,18 @@ abbrev pub besides : (ℕ → ℕ) → ℕ → ℕ → ℕ
 besides f k j = gate (not (eqb j k)) (f j)
 
 module _ (f : ℕ → ℕ) (k j : ℕ) where
+  own : j ≡ k → besides f k j ≡ 0
+  own e = gate_off (not (eqb j k)) (f j) (ap not (eq-eqb j k e))
+
+  other : ¬ (j ≡ k) → besides f k j ≡ f j
+  other ne = gate_on (not (eqb j k)) (f j) (ap not (ne_eqb j k ne))
+
+  -- for others
   pub besides_none : j ≡ k → besides f k j ≡ 0
-  besides_none e = gate_off (not (eqb j k)) (f j) (ap not (eq-eqb j k e))
+  besides_none e = own e
 
   pub besides_is : ¬ (j ≡ k) → besides f k j ≡ f j
-  besides_is ne = gate_on (not (eqb j k)) (f j) (ap not (ne_eqb j k ne))
+  besides_is ne = other ne
 
   -- as the code computes it: a branch for the one index
   pub besides_own : (b : ℕ) → j ≡ k → Within b (besides f k j) 0
@@ -27,7 +34,7 @@ pub ruleset besides_cases = (besides_own, besides_other)
 
 -- the sum of all is that of the others and the one
 pub sum_besides : (f : ℕ → ℕ) (n k : ℕ) → k < n → sum_to f n ≡ sum_to (besides f k) n + f k
-sum_besides f n k l = omega (arith, sum_eq_at f (besides f k) n k l (λ j u ne. sym (besides_is f k j ne)), besides_none f k k refl)
+sum_besides f n k l = omega (arith, sum_eq_at f (besides f k) n k l (λ j u ne. sym (other f k j ne)), own f k k refl)
 
 pub sum_besides_le : (f g : ℕ → ℕ) (n k : ℕ) → ((j : ℕ) → j < n → f j ≤ g j) → sum_to (besides f k) n ≤ sum_to (besides g k) n
 sum_besides_le f g n k h = sum_le (besides f k) (besides g k) n (λ j l. gate_mono (not (eqb j k)) (f j) (g j) (h j l))

@@ -139,6 +139,6 @@ pub entry_printed : (input text before after : List ℕ) (k n r : ℕ) → k ≡
     → text ≡ take n input → Wrote (1564 + 11 * length text) (all text) before after 0 r → Advised input before after r
 unfolding output_of
 entry_printed input text before after k n r d h e f p =
-    filled_printed input_limit input n e 1564 11 k r all text before after d h f p
+    filled_printed input_limit input n e 11 k r all text before after d h f p
 
 pub ruleset entry_cases = (filled_short, read_limit, room_kept, entry_printed)

@@ -61,7 +61,7 @@ output_of input = answers_from 1 no_draft (lines_of (take input_limit input))
 -- a buffer of this length holds every output for n bytes of input: 11 bytes for each of them that is read, the length of what is
 -- printed of an empty line, and 1,564 for the last table
 abbrev pub room_for : ℕ → ℕ
-room_for n = room_in 1564 11 input_limit n
+room_for n = room_in 11 input_limit n
 
 -- the contract of `opinions`
 abbrev pub Advised : List ℕ → List ℕ → List ℕ → ℕ → Type 0

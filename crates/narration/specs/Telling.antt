@@ -1,7 +1,7 @@
 -- The output a part at a time: what the code of src/lib.rt keeps, and its cases. Assumes nothing.
 use Rattle.std.specs.Prelude.{ℕ, suc, ◌+◌, ◌-◌, ◌≤◌, ◌<◌, ◌≡◌, Bool, ◌⊎◌, ltb, take, drop}
 use Rattle.std.proofs.Math.Path.{refl, ap}
-use Rattle.std.proofs.Common.{sym, ◌∙◌, true≢false, inl, inr, ⊎_elim, add-one, arith, length-append, length-take, take_at, take_all}
+use Rattle.std.proofs.Common.{sym, ◌∙◌, true≢false, inl, inr, ⊎_elim, add-one, append-nil, arith, length-append, length-take, take_at, take_all}
 use Rattle.std.proofs.Math.Bool.{true, false, cond}
 use mathlib.Core.List.{List, [], ◌++◌, append_assoc}
 use Rattle.std.proofs.Math.ListN.{length}
@@ -28,7 +28,7 @@ use Rattle.transcript.specs.Transcript.{input_limit}
 use Rattle.transcript.specs.Play.{queue_of, words_in, Ready, Did}
 use Rattle.transcript.specs.Plays.{Reached, reached_first, reached_ready, reached_place, reached_next}
 use Rattle.transcript.specs.Alone.{either_none}
-use Rattle.transcript.specs.Opening.{opinion_in, Opened, opens_refused, opens_admitted}
+use Rattle.transcript.specs.Opening.{opinion_in, Opened, opened_refused, opened_admitted}
 use Rattle.narration.specs.Narration.{explanation_after, narrated_line, narrated_lines, narrated_of, narration_of}
 
 -- ---- what is owed
@@ -213,7 +213,7 @@ module _ (text : List ℕ) (t : State) (words before : List ℕ) (on : t.play.ov
       line_order = line_ready.order
 
       pub line_within : t.play.to ≤ length words'
-      line_within = omega (arith, line_ready.within, did.moved.words)
+      line_within = omega (arith, line_ready.within, did.words)
 
       module _ (q : List ℕ) (is : q ≡ queue_of words' t.play) (after : List ℕ) (e : ℕ)
           (w : Wrote 1951 (explanation_after t.session q n.line) middle after d.play.end e) where
@@ -225,7 +225,7 @@ module _ (text : List ℕ) (t : State) (words before : List ℕ) (on : t.play.ov
 
         -- the words before the line
         waited : q ≡ queue_of words t.play
-        waited = is ∙ ap (drop t.play.from) did.moved.waited
+        waited = is ∙ ap (drop t.play.from) did.waited
 
         wrote : Wrote 2037 told before after t.play.end e
         unfolding narrated_line
@@ -243,8 +243,8 @@ module _ (text : List ℕ) (t : State) (words before : List ℕ) (on : t.play.ov
                 (narrated_lines (step_of t.session (queue_of words t.play) t.play.line n.line).session
                 (step_of t.session (queue_of words t.play) t.play.line n.line).queue (suc t.play.line) (lines_of (drop n.at text)))
                 ≡ told ++ owed text next words'
-            by true f = rw (← did.moved.over, f)
-            by false f = rw (← did.moved.over, f, ← did.moved.session, ← did.moved.queue, did.moved.line f, add-one)
+            by true f = rw (← did.over, f)
+            by false f = rw (← did.over, f, ← did.session, ← did.queue, did.line f, add-one)
 
         pub line_told : (r : State) → r ≡ closed_at_lem next (length text) → LineTold text t r words words' before after
         unfolding owed
@@ -257,11 +257,11 @@ module _ (text : List ℕ) (t : State) (words before : List ℕ) (on : t.play.ov
                   (sym (append_assoc (take t.play.end before) told (owed text next words')));
               fits = omega (arith, closed_end text next r words' c, wrote.place, h, same);
               same = same;
-              places = did.moved.words;
+              places = did.words;
               going =
                   closed_going text next r words' c
                   (λ f. reached_same text d.session d.play (with_end d.play e) words' n.at refl refl refl
-                  (reached_next text t.session t.play words t.at (g.reached on) n k d.session d.play words' did.moved f));
+                  (reached_next text t.session t.play words t.at (g.reached on) n k d.session d.play words' before middle did f));
               further = omega (arith, closed_at text next r words' c, k.size, size_some n.line);
             }
 
@@ -280,13 +280,13 @@ begun text t r before after limit room o e =
     record {
       output = λ words.
           all ∙ both t.play.over
-          (λ f. rw (opens_refused text t o.opens narrated_lines f, closed_end text t r words e, front, closed_owed text t r words e o.opens.place, f))
-          (λ f. rw (opens_admitted text t o.opens narrated_lines f, closed_end text t r words e, front, closed_owed text t r words e o.opens.place, f, o.opens.from, o.opens.to));
+          (λ f. opened_refused text t before after o narrated_lines f ∙ rw (closed_end text t r words e, front, closed_owed text t r words e o.place, f) (sym (append-nil printed)))
+          (λ f. opened_admitted text t before after o narrated_lines f ∙ rw (closed_end text t r words e, front, closed_owed text t r words e o.place, f, o.from, o.to));
       fits =
           omega (arith, closed_end text t r [] e, o.wrote.place, h, wrote_length 1478 printed before after 0 t.play.end h o.wrote);
       going = λ words places.
           closed_going text t r words e
-          (λ f. reached_first text t.session t.play words t.at limit o.opens.place (o.opens.admitted f).kept o.opens.from o.opens.to o.opens.line places);
+          (λ f. reached_first text t.session t.play words t.at limit o.place (o.admitted f).kept o.from o.to o.line places);
     }
 
 -- ---- `more`

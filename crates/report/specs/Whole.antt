@@ -6,10 +6,14 @@ use Rattle.std.proofs.Math.Logic.{dite}
 use Rattle.std.proofs.Math.Decide.{dec_le}
 use Rattle.decimal.specs.Buffer.{Wrote, overlay_length}
 
--- room for what is printed of an input of n bytes, of which `limit` at most are read: so many bytes for each of those, besides those
--- that a text may have whatever its input
-unfoldable pub room_in : ℕ → ℕ → ℕ → ℕ → ℕ
-room_in base each limit n = base + each * min n limit
+-- room for what is printed of an input of n bytes, of which `limit` at most are read: so many bytes for each of those, 1,478 for
+-- an opinion and 86 for a line
+unfoldable pub room_in : ℕ → ℕ → ℕ → ℕ
+room_in each limit n = 1564 + each * min n limit
+
+-- the same with `base` bytes that a text may have whatever its input
+unfoldable pub room_from : ℕ → ℕ → ℕ → ℕ → ℕ
+room_from base each limit n = base + each * min n limit
 
 -- the text stands at the start of the buffer, with the rest as it was, and r is its length; a buffer shorter than the room is
 -- left as it was, with 0 for an answer
@@ -28,9 +32,13 @@ filled_within room text before after r (too_short h e z) = omega arith
 filled_within room text before after r (printed h p) =
     omega (arith, p.place, p.short, ap length p.buffer, overlay_length before 0 text (omega (arith, p.short)))
 
-pub room_of_least : (base each limit n k : ℕ) → k ≡ min n limit → base + each * k ≡ room_in base each limit n
+pub room_from_least : (base each limit n k : ℕ) → k ≡ min n limit → base + each * k ≡ room_from base each limit n
+unfolding room_from
+room_from_least base each limit n k e = rw e
+
+pub room_of_least : (each limit n k : ℕ) → k ≡ min n limit → 1564 + each * k ≡ room_in each limit n
 unfolding room_in
-room_of_least base each limit n k e = rw e
+room_of_least each limit n k e = rw e
 
 module _ (limit : ℕ) (input : List ℕ) (n : ℕ) (e : n ≡ min (length input) limit) where
   -- what is read of the input
@@ -47,18 +55,32 @@ module _ (limit : ℕ) (input : List ℕ) (n : ℕ) (e : n ≡ min (length input
   read_length = length-take-le n input (omega arith) ∙ e
 
   -- and the room for it
-  pub room_is : (base each : ℕ) → base + each * length (take n input) ≡ room_in base each limit (length input)
-  unfolding room_in
-  room_is base each = rw read_length
+  pub room_from_is : (base each : ℕ) → base + each * length (take n input) ≡ room_from base each limit (length input)
+  unfolding room_from
+  room_from_is base each = rw read_length
 
-  pub room_kept : (base each k : ℕ) (before : List ℕ) → k ≡ room_in base each limit (length input) → k ≤ length before
+  pub room_from_kept : (base each k : ℕ) (before : List ℕ) → k ≡ room_from base each limit (length input) → k ≤ length before
       → base + each * length (take n input) ≤ length before
-  room_kept base each k before d h = omega (arith, room_is base each)
+  room_from_kept base each k before d h = omega (arith, room_from_is base each)
 
-  pub filled_printed : (base each k r : ℕ) (print : List ℕ → List ℕ) (text before after : List ℕ) → k ≡ room_in base each limit (length input) → k ≤ length before
+  pub filled_from : (base each k r : ℕ) (print : List ℕ → List ℕ) (text before after : List ℕ) → k ≡ room_from base each limit (length input) → k ≤ length before
       → text ≡ take n input → Wrote (base + each * length text) (print text) before after 0 r
-      → Filled (room_in base each limit (length input)) (print (take limit input)) before after r
-  filled_printed base each k r print text before after d h f p =
-      let most : base + each * length text ≡ room_in base each limit (length input) = ap (λ (x : List ℕ). base + each * length x) f ∙ room_is base each in
+      → Filled (room_from base each limit (length input)) (print (take limit input)) before after r
+  filled_from base each k r print text before after d h f p =
+      let most : base + each * length text ≡ room_from base each limit (length input) = ap (λ (x : List ℕ). base + each * length x) f ∙ room_from_is base each in
       printed (omega arith)
-      (subst (λ (x : List ℕ). Wrote (room_in base each limit (length input)) (print x) before after 0 r) (f ∙ limit_is) (rw most at p))
+      (subst (λ (x : List ℕ). Wrote (room_from base each limit (length input)) (print x) before after 0 r) (f ∙ limit_is) (rw most at p))
+
+  pub room_is : (each : ℕ) → 1564 + each * length (take n input) ≡ room_in each limit (length input)
+  unfolding room_in
+  room_is each = rw read_length
+
+  pub room_kept : (each k : ℕ) (before : List ℕ) → k ≡ room_in each limit (length input) → k ≤ length before
+      → 1564 + each * length (take n input) ≤ length before
+  room_kept each k before d h = omega (arith, room_is each)
+
+  pub filled_printed : (each k r : ℕ) (print : List ℕ → List ℕ) (text before after : List ℕ) → k ≡ room_in each limit (length input) → k ≤ length before
+      → text ≡ take n input → Wrote (1564 + each * length text) (print text) before after 0 r
+      → Filled (room_in each limit (length input)) (print (take limit input)) before after r
+  unfolding room_in room_from
+  filled_printed each k r print text before after d h f p = filled_from 1564 each k r print text before after d h f p

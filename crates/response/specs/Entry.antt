@@ -10,14 +10,15 @@ use Rattle.table.specs.Rows.{tasks_of}
 use Rattle.table.specs.Verdict.{opinion_of}
 use Rattle.table.specs.Opinion.{Shows, Says}
 use Rattle.report.specs.Text.{opinion_text}
-use Rattle.report.specs.Whole.{filled_short, read_limit, room_kept, filled_printed}
+use Rattle.report.specs.Whole.{filled_short, read_limit, room_from_kept, filled_from}
 use Rattle.session.specs.declared.Session.{Session}
 use Rattle.guarantee.specs.Ledger.{empty}
 use Rattle.transcript.specs.declared.opening.Judged.{Judged}
 use Rattle.transcript.specs.declared.opening.State.{State}
 use Rattle.transcript.specs.Transcript.{input_limit, row_limit, rows_in}
 use Rattle.transcript.specs.Table.{Stated}
-use Rattle.transcript.specs.Opening.{opinion_in, calls_by, table_in, Startable, started_by, Judges, Opens, judged_startable, started_opens, opens_admitted}
+use Rattle.transcript.specs.Opening.{opinion_in}
+use Rattle.transcript.specs.Opens.{calls_by, table_in, Startable, started_by, Judges, Opens, judged_startable, started_opens, opens_admitted}
 use Rattle.response.specs.Jobs.{items_text}
 use Rattle.response.specs.Plan.{besides_text, items_from, items_of, printed_of, planned_of, room_for, Planned}
 use Rattle.response.specs.Opening.{Refusal, refusal_of}
@@ -131,6 +132,6 @@ pub entry_printed : (input text before after : List ℕ) (k n r : ℕ) → k ≡
     → text ≡ take n input → Wrote (room_of text) (printed_of (lines_of text)) before after 0 r → Planned input before after r
 unfolding planned_of
 entry_printed input text before after k n r d h e f p =
-    filled_printed input_limit input n e 31004 64 k r (λ (x : List ℕ). printed_of (lines_of x)) text before after d h f p
+    filled_from input_limit input n e 31004 64 k r (λ (x : List ℕ). printed_of (lines_of x)) text before after d h f p
 
-pub ruleset entry_cases = (filled_short, read_limit, room_kept, entry_printed)
+pub ruleset entry_cases = (filled_short, read_limit, room_from_kept, entry_printed)

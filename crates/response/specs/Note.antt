@@ -25,7 +25,8 @@ use Rattle.calls.specs.Code.{ChoiceBounds, place_of, place_due}
 use Rattle.transcript.specs.declared.step.Play.{Play}
 use Rattle.transcript.specs.Step.{call_of, step_of}
 use Rattle.transcript.specs.Kept.{as_call}
-use Rattle.transcript.specs.Play.{queue_of, words_in, Ready, Passes, passed_by, Did, Aside, call_used}
+use Rattle.transcript.specs.Play.{queue_of, words_in, Ready, Did, Aside, call_used}
+use Rattle.transcript.specs.Moves.{Passes, passed_by}
 use Rattle.response.specs.Jobs.{line_by_lem, job_text, ended_by}
 use Rattle.response.specs.Watch.{aged, tallied}
 use Rattle.response.specs.Put.{LegibleRow, Legible}

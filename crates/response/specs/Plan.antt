@@ -7,7 +7,7 @@ use Rattle.lines.specs.Lines.{lines_of}
 use Rattle.table.specs.Rows.{tasks_of}
 use Rattle.table.specs.Verdict.{opinion_of}
 use Rattle.report.specs.Text.{opinion_text}
-use Rattle.report.specs.Whole.{room_in, Filled}
+use Rattle.report.specs.Whole.{room_from, Filled}
 use Rattle.planning.specs.Planning.{costs_text, cuts_text}
 use Rattle.session.specs.declared.Session.{Session}
 use Rattle.session.specs.Start.{session_of}
@@ -74,7 +74,7 @@ planned_of input = printed_of (lines_of (take input_limit input))
 -- a buffer of this length holds every output for n bytes of input: 64 bytes for each of them that is read, 1,478 for the opinion, 27,392 for
 -- the costs, 86 for a line `?` and 2,048 for 16 jobs that wait
 abbrev pub room_for : ℕ → ℕ
-room_for n = room_in 31004 64 input_limit n
+room_for n = room_from 31004 64 input_limit n
 
 -- the contract of `plan`. No output has length 0 (`NeverEmpty` in Statement.antt).
 abbrev pub Planned : List ℕ → List ℕ → List ℕ → ℕ → Type 0

@@ -38,8 +38,9 @@ use Rattle.guarantee.specs.After.{event_of}
 use Rattle.transcript.specs.declared.step.Play.{Play}
 use Rattle.transcript.specs.Step.{Step, queue_limit, step_of, call_of}
 use Rattle.transcript.specs.Kept.{Kept, as_call, call_is}
-use Rattle.transcript.specs.Play.{queue_of, words_in, queue_length, Ready, Moved, Did, call_moves}
-use Rattle.transcript.specs.Plays.{Reached, reached_first, reached_ready, reached_place, reached_next, play_less}
+use Rattle.transcript.specs.Play.{queue_of, words_in, queue_length, Ready, Did}
+use Rattle.transcript.specs.Moves.{Moved, call_moves}
+use Rattle.transcript.specs.Plays.{Reached, reached_first, reached_ready, reached_place, reached_moved, reached_next, play_less}
 use Rattle.response.specs.Jobs.{Item, item_text, items_text, latest_of, ended_by, ended_items, pending_item, pending_items}
 use Rattle.response.specs.Plan.{Noted, note_of, items_from}
 use Rattle.response.specs.Watch.{Watched, tallied, watched_call, watched_deadline, pending_some, pending_none, ended_some, ended_none, ended_row}
@@ -346,21 +347,21 @@ module _ (text l : List ℕ) (start : ℕ) (s₀ : Session) (p₀ : Play) (first
           → owed text l now.ledger now.counts s p (queue_of words p) at
           ≡ step.text ++ owed text l now.ledger now.counts s r (queue_of words' r) n.at
       owed_aside e =
-          owed_line ∙ rw (text_is, same.0, same.1, sym did.moved.over ∙ e, did.moved.line e, add-one, ← did.moved.session, did.moved.queue)
+          owed_line ∙ rw (text_is, same.0, same.1, sym did.over ∙ e, did.line e, add-one, ← did.session, did.queue)
 
       aside_none : r.over ≡ false → length step.text ≡ 0
-      aside_none e = open_none s (queue_of words p) p.line n.line ne (sym did.moved.over ∙ e)
+      aside_none e = open_none s (queue_of words p) p.line n.line ne (sym did.over ∙ e)
 
       walk_aside : r.over ≡ false → Walking text l start s₀ p₀ first spans s r xs words' out' n.at
       walk_aside e = record {
         same = wrote_length 86 step.text out out' p.end r.end fits did.wrote ∙ now.same;
-        places = did.moved.words ∙ now.places;
+        places = did.words ∙ now.places;
         begun = now.begun;
         table = now.table;
         ledger = now.ledger;
         counts = now.counts;
         watched = now.watched;
-        reached = reached_next text s p words at now.reached n t s r words' did.moved e;
+        reached = reached_next text s p words at now.reached n t s r words' out out' did e;
         end = omega (arith, did.wrote.place, aside_none e, now.end, t.size);
         owing = owing_next _ _ _ _ _ _ now.owing 86 step.text _ out' r.end (owed_aside e) fits did.wrote;
       }
@@ -369,7 +370,7 @@ module _ (text l : List ℕ) (start : ℕ) (s₀ : Session) (p₀ : Play) (first
       owed_ends : r.over ≡ true
           → owed text l now.ledger now.counts s p (queue_of words p) at ≡ step.text ++ pendings_text (tasks_of l) s xs
       owed_ends e =
-          owed_line ∙ rw (text_is, same.0, same.1, sym did.moved.over ∙ e, pendings_are l now.ledger now.counts s xs now.watched)
+          owed_line ∙ rw (text_is, same.0, same.1, sym did.over ∙ e, pendings_are l now.ledger now.counts s xs now.watched)
 
       walk_ends : (after : List ℕ) (k : ℕ) → r.over ≡ true → Wrote 2048 (pendings_text (tasks_of l) s xs) out' after r.end k → Whole k after
       walk_ends after k e w =
@@ -429,7 +430,7 @@ module _ (text l : List ℕ) (start : ℕ) (s₀ : Session) (p₀ : Play) (first
           ledger = note.ledger;
           counts = note.counts;
           watched = watched;
-          reached = reached_next text s p words at now.reached n t s' r words moved d.passes.over;
+          reached = reached_moved text s p words at now.reached n t s' r words moved d.passes.over;
           end = omega (arith, d.wrote.place, short, now.end, t.size);
           owing = owing_next _ _ _ _ _ _ now.owing 128 line _ out' r.end owed_call call_fits d.wrote;
         }

@@ -1,11 +1,13 @@
 pub mod Step
 pub mod Play
+pub mod Moves
 pub mod Transcript
 pub mod Table
 pub mod Kept
 pub mod Short
 pub mod Plays
 pub mod Opening
+pub mod Opens
 pub mod Entry
 pub mod Empty
 pub mod Alone

@@ -1,6 +1,6 @@
 -- From the table to the calls. Assumes nothing.
-use Rattle.std.specs.Prelude.{ℕ, suc, ◌+◌, ◌*◌, ◌/◌, ◌≤◌, ◌≡◌, refl, true, false, not, cond, List, [], eqb, take, drop}
-use Rattle.std.proofs.Common.{sym, subst, ◌∙◌, arith, length-take-le, eqb-true}
+use Rattle.std.specs.Prelude.{ℕ, suc, ◌+◌, ◌*◌, ◌/◌, ◌≤◌, ◌≡◌, refl, true, false, not, cond, List, [], ◌++◌, eqb, take, drop}
+use Rattle.std.proofs.Common.{sym, subst, ◌∙◌, append-nil, arith, length-take-le, eqb-true}
 use Rattle.std.proofs.Math.Path.{ap}
 use Rattle.std.proofs.Math.ListN.{length}
 use Rattle.std.proofs.lemmas.Bool.{not-true, not-false}
@@ -11,17 +11,16 @@ use Rattle.table.specs.declared.Numbers.{Numbers}
 use Rattle.table.specs.Rows.{tasks_of}
 use Rattle.table.specs.Verdict.{Opinion, opinion_of}
 use Rattle.table.specs.declared.Judgement.{Judgement}
-use Rattle.table.specs.Opinion.{shown, shown_of, Shows, Says, says_of}
+use Rattle.table.specs.Opinion.{shown_of, Shows, shows_of}
 use Rattle.table.specs.Theorems.{opinion_admitted}
 use Rattle.report.specs.Text.{opinion_text}
 use Rattle.report.specs.Put.{Reported}
 use Rattle.session.specs.declared.Session.{Session}
-use Rattle.session.specs.Start.{no_session, start_of, session_of}
+use Rattle.session.specs.Start.{no_session, start_of, session_of, start_says}
 use Rattle.guarantee.specs.Good.{Good}
 use Rattle.guarantee.specs.KeepsFresh.{good_fresh}
 use Rattle.transcript.specs.declared.rows.Rows.{Rows}
 use Rattle.transcript.specs.declared.opening.State.{State}
-use Rattle.transcript.specs.declared.opening.Judged.{Judged}
 use Rattle.transcript.specs.Transcript.{row_limit, rows_in, after_rows}
 use Rattle.transcript.specs.Table.{Stated}
 use Rattle.transcript.specs.Kept.{Kept}
@@ -30,36 +29,13 @@ use Rattle.transcript.specs.Kept.{Kept}
 abbrev pub opinion_in : List ℕ → Opinion
 opinion_in text = opinion_of (rows_in row_limit (lines_of text))
 
--- what f prints of the session of the table, if it is admitted, of the words waiting, the number of the next line and the lines after
--- the table
-abbrev pub calls_by : (Session → List ℕ → ℕ → List Line → List ℕ) → List Line → List ℕ
-calls_by f l =
-    cond (eqb (opinion_of (rows_in row_limit l)).number 0)
+-- what is printed of lines: the opinion on the table and, if it is admitted, what f prints of its session, the words waiting, the
+-- number of the next line and the lines after the table
+abbrev pub printed_by : (Session → List ℕ → ℕ → List Line → List ℕ) → List Line → List ℕ
+printed_by f l =
+    opinion_text (opinion_of (rows_in row_limit l))
+    ++ cond (eqb (opinion_of (rows_in row_limit l)).number 0)
     (f (session_of (rows_in row_limit l)) [] (suc (length (rows_in row_limit l) / 3)) (after_rows row_limit l)) []
-
--- the numbers of rows that were read
-abbrev pub table_in : Rows → List ℕ
-table_in t = take (3 * t.count) t.words
-
--- the opinion on the table of the text was printed, and j has the table and the verdict
-pub record Judges (text : List ℕ) (j : Judged) (before after : List ℕ) : Type 0 where
-  pub stated : Stated text j.rows
-  pub says : Says j.verdict (opinion_in text)
-  pub wrote : Wrote 1478 (opinion_text (opinion_in text)) before after 0 j.end
-
--- j has a table and the verdict on it
-pub record Startable (j : Judged) : Type 0 where
-  pub few : j.rows.count ≤ 16
-  pub places : length j.rows.words ≡ 48
-  pub says : Says j.verdict (opinion_of (table_in j.rows))
-
--- the calls start from the fresh session, with no words, at the line after the rows
-abbrev pub started_by : Judged → State
-started_by j = record {
-  session = start_of no_session (table_in j.rows);
-  play = record { from = 0; to = 0; line = j.rows.count + 1; end = j.end; over = not (eqb (shown j.verdict []).number 0) };
-  at = j.rows.at;
-}
 
 -- r is where the calls of the text start
 pub record Admitted (text : List ℕ) (r : State) : Type 0 where
@@ -68,12 +44,9 @@ pub record Admitted (text : List ℕ) (r : State) : Type 0 where
   pub count : suc (length (rows_in row_limit (lines_of text)) / 3) ≡ r.play.line
   pub kept : Kept r.session
 
--- three numbers to a row
-rows_count : (text : List ℕ) (t : Rows) → Stated text t → length (table_in t) ≡ 3 * t.count
-rows_count text t st = length-take-le (3 * t.count) t.words (omega (arith, st.places, st.few))
-
--- r is where output goes on, or has ended
-pub record Opens (text : List ℕ) (r : State) : Type 0 where
+-- the opinion was printed
+pub record Opened (text : List ℕ) (r : State) (before after : List ℕ) : Type 0 where
+  pub wrote : Wrote 1478 (opinion_text (opinion_in text)) before after 0 r.play.end
   pub over : r.play.over ≡ not (eqb (opinion_in text).number 0)
   pub admitted : r.play.over ≡ false → Admitted text r
   pub place : r.at ≤ length text
@@ -81,28 +54,31 @@ pub record Opens (text : List ℕ) (r : State) : Type 0 where
   pub to : r.play.to ≡ 0
   pub line : r.play.line ≤ r.at + 1
 
--- and the opinion was printed
-pub record Opened (text : List ℕ) (r : State) (before after : List ℕ) : Type 0 where
-  pub wrote : Wrote 1478 (opinion_text (opinion_in text)) before after 0 r.play.end
-  pub opens : Opens text r
-
 -- ---- what is left to print
 
-module _ (text : List ℕ) (r : State) (o : Opens text r) (f : Session → List ℕ → ℕ → List Line → List ℕ) where
+module _ (text : List ℕ) (r : State) (before after : List ℕ) (o : Opened text r before after) (f : Session → List ℕ → ℕ → List Line → List ℕ) where
   -- a refused table ends the output
-  pub opens_refused : r.play.over ≡ true → calls_by f (lines_of text) ≡ []
-  opens_refused e = rw (not-true (eqb (opinion_in text).number 0) (sym o.over ∙ e))
+  pub opened_refused : r.play.over ≡ true → printed_by f (lines_of text) ≡ opinion_text (opinion_in text)
+  opened_refused e = rw (not-true (eqb (opinion_in text).number 0) (sym o.over ∙ e)) (append-nil _)
 
-  pub opens_admitted : r.play.over ≡ false → calls_by f (lines_of text) ≡ f r.session [] r.play.line (lines_of (drop r.at text))
-  opens_admitted e =
+  pub opened_admitted : r.play.over ≡ false
+      → printed_by f (lines_of text) ≡ opinion_text (opinion_in text) ++ f r.session [] r.play.line (lines_of (drop r.at text))
+  opened_admitted e =
       let a = o.admitted e in
       rw (not-false (eqb (opinion_in text).number 0) (sym o.over ∙ e), a.rest, a.count, ← a.session)
 
--- ---- `judge`
+-- ---- the code
 
-module _ (text : List ℕ) (t : Rows) (st : Stated text t) (ws : List ℕ) (e : ws ≡ table_in t) (j : Judgement) (op : shown_of j ≡ opinion_of ws) where
+module _ (text : List ℕ) (t : Rows) (st : Stated text t) (ws : List ℕ) (e : ws ≡ take (3 * t.count) t.words) (j : Judgement) (op : shown_of j ≡ opinion_of ws) where
+  rows_are : rows_in row_limit (lines_of text) ≡ ws
+  rows_are = st.rows ∙ sym e
+
   opinion_is : opinion_in text ≡ shown_of j
-  opinion_is = ap opinion_of (st.rows ∙ sym e) ∙ sym op
+  opinion_is = ap opinion_of rows_are ∙ sym op
+
+  -- three numbers to a row
+  rows_count : length ws ≡ 3 * t.count
+  rows_count = ap length e ∙ length-take-le (3 * t.count) t.words (omega (arith, st.places, st.few))
 
   -- an admitted table's second value is its number of rows
   pub second_is : (shown_of j).number ≡ 0 → (shown_of j).second ≡ t.count
@@ -110,65 +86,40 @@ module _ (text : List ℕ) (t : Rows) (st : Stated text t) (ws : List ℕ) (e : 
   second_is z =
       ap (λ (x : Opinion). x.second) op
       ∙ (opinion_admitted ws (sym (ap (λ (x : Opinion). x.number) op) ∙ z)).1
-      ∙ omega (arith, ap length e, rows_count text t st)
+      ∙ omega (arith, rows_count)
 
-  pub judged : (before after : List ℕ) (end : ℕ) → Reported (shown_of j) t.count before after 0 end
-      → Judges text (record { rows = t; verdict = j.verdict; end = end }) before after
-  judged before after end x = record {
-    stated = st;
-    says = rw opinion_is (says_of j (shown_of j) refl);
-    wrote = rw opinion_is x.wrote;
-  }
-
-pub ruleset judge_laws = (second_is, judged)
-
--- ---- `started`
-
-pub started_says : (j : Judged) (ws : List ℕ) → ws ≡ table_in j.rows → Startable j → Says j.verdict (opinion_of ws)
-started_says j ws e h = rw e h.says
-
-pub started_is : (j : Judged) (ws : List ℕ) (n : Numbers) (s₀ s : Session) → ws ≡ table_in j.rows → Shows j.verdict n → s₀ ≡ no_session → s ≡ start_of s₀ ws
-    → record {
+  module _ (n : Numbers) (sh : Shows j.verdict n) (before after : List ℕ) (end : ℕ) (x : Reported (shown_of j) t.count before after 0 end)
+      (s₀ s : Session) (e₀ : s₀ ≡ no_session) (is : s ≡ start_of s₀ ws) where
+    -- the calls start from the fresh session, with no words, at the line after the rows
+    abbrev first : State
+    first = record {
       session = s;
-      play = record { from = 0; to = 0; line = j.rows.count + 1; end = j.end; over = not (eqb n.number 0) };
-      at = j.rows.at;
+      play = record { from = 0; to = 0; line = t.count + 1; end = end; over = not (eqb n.number 0) };
+      at = t.at;
     }
-    ≡ started_by j
-started_is j ws n s₀ s e h z is = rw (h.number, is, z, e)
 
-pub ruleset started_laws = (started_says, started_is)
+    number_is : (opinion_in text).number ≡ n.number
+    number_is = ap (λ (y : Opinion). y.number) (opinion_is ∙ shows_of j n sh)
 
--- ---- `begin`
+    good : eqb n.number 0 ≡ true → Good ws s
+    good z = rw is (good_fresh ws (ap (λ (l : List ℕ). (opinion_of l).number) (sym rows_are) ∙ number_is ∙ eqb-true n.number 0 z) s₀)
 
-module _ (text : List ℕ) (j : Judged) (st : Stated text j.rows) (says : Says j.verdict (opinion_in text)) where
-  pub judged_startable : Startable j
-  judged_startable = record { few = st.few; places = st.places; says = rw (← st.rows) says }
+    pub opening_done : Opened text first before after
+    opening_done = record {
+      wrote = rw opinion_is x.wrote;
+      over = rw number_is;
+      admitted = λ z.
+          let g = good (not-false (eqb n.number 0) z) in
+          record {
+            session = rw (is, e₀, rows_are);
+            rest = st.rest;
+            count = omega (arith, ap length rows_are, rows_count);
+            kept = subst (λ (y : List ℕ). Good y s) (sym g.rows) g;
+          };
+      place = st.within;
+      from = refl;
+      to = refl;
+      line = omega (arith, st.size);
+    }
 
-  -- whatever else was printed
-  pub started_opens : (r : State) → r ≡ started_by j → Opens text r
-  started_opens r e = rw e record {
-    over = rw says.number;
-    admitted = λ z.
-        let admitted = sym says.number ∙ eqb-true (shown j.verdict []).number 0 (not-false _ z) in
-        let g = good_fresh (rows_in row_limit (lines_of text)) admitted no_session in
-        let same = st.rows in
-        record {
-          session = rw same;
-          rest = st.rest;
-          count = omega (arith, ap length same, rows_count text j.rows st);
-          kept = rw (← same) (subst (λ (y : List ℕ). Good y (start_of no_session (rows_in row_limit (lines_of text)))) (sym g.rows) g);
-        };
-    place = st.within;
-    from = refl;
-    to = refl;
-    line = omega (arith, st.size);
-  }
-
-pub opening_done : (text : List ℕ) (j : Judged) (r : State) (before after : List ℕ) → Judges text j before after → r ≡ started_by j → Opened text r before after
-opening_done text j r before after g e =
-    record { wrote = rw e g.wrote; opens = started_opens text j g.stated g.says r e }
-
-pub opening_starts : (text : List ℕ) (j : Judged) (before after : List ℕ) → Judges text j before after → Startable j
-opening_starts text j before after g = judged_startable text j g.stated g.says
-
-pub ruleset opening_laws = (opening_starts, opening_done)
+pub ruleset opening_laws = (second_is, start_says, opening_done)

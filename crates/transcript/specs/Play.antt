@@ -49,20 +49,13 @@ pub record Ready (p : Play) (words out : List ℕ) : Type 0 where
   pub room : p.end + 86 ≤ length out
   pub count : p.line < 2 ^ 32
 
--- a call used so many words
-pub record Passes (used : ℕ) (p r : Play) : Type 0 where
+-- a text was printed, of a call that used so many words
+pub record Told (text : List ℕ) (used : ℕ) (p r : Play) (before after : List ℕ) : Type 0 where
+  pub wrote : Wrote 86 text before after p.end r.end
   pub from : r.from ≡ p.from + used
   pub to : r.to ≡ p.to
   pub line : r.line ≡ p.line + 1
   pub over : r.over ≡ false
-
-abbrev pub passed_by : Play → ℕ → ℕ → Play
-passed_by p used end = record { from = p.from + used; to = p.to; line = p.line + 1; end = end; over = false }
-
--- and a text was printed of it
-pub record Told (text : List ℕ) (used : ℕ) (p r : Play) (before after : List ℕ) : Type 0 where
-  pub wrote : Wrote 86 text before after p.end r.end
-  pub passes : Passes used p r
 
 -- it was printed that the line is unreadable
 pub record Unread (clock : ℕ) (p r : Play) (before after : List ℕ) : Type 0 where
@@ -72,9 +65,9 @@ pub record Unread (clock : ℕ) (p r : Play) (before after : List ℕ) : Type 0 
   pub line : r.line ≡ p.line
   pub over : r.over ≡ true
 
--- the session s and r are what the step x, of a line that queues k words, leads to from p, with the words v in place of w; whatever
--- is printed
-pub record Moved (k : ℕ) (x : Step) (s : Session) (p r : Play) (w v : List ℕ) : Type 0 where
+-- the session s and r are what the step x, of a line that queues k words, leads to from p, with the words v in place of w
+pub record Did (k : ℕ) (x : Step) (s : Session) (p r : Play) (w v before after : List ℕ) : Type 0 where
+  pub wrote : Wrote 86 x.text before after p.end r.end
   pub session : s ≡ x.session
   pub queue : queue_of v r ≡ x.queue
   pub order : r.from ≤ r.to
@@ -84,11 +77,6 @@ pub record Moved (k : ℕ) (x : Step) (s : Session) (p r : Play) (w v : List ℕ
   pub words : length v ≡ length w
   -- the words that waited stay in their places
   pub waited : take p.to v ≡ take p.to w
-
--- and its text was printed
-pub record Did (k : ℕ) (x : Step) (s : Session) (p r : Play) (w v before after : List ℕ) : Type 0 where
-  pub wrote : Wrote 86 x.text before after p.end r.end
-  pub moved : Moved k x s p r w v
 
 -- a word's line, with any session that shows this clock
 pub record Queued (clock w : ℕ) (p r : Play) (words words' before after : List ℕ) : Type 0 where
@@ -101,12 +89,10 @@ pub record Aside (clock : ℕ) (x : Line) (p r : Play) (words words' before afte
 
 -- ---- printing
 
-pub told_is : (clock letter : ℕ) (a : Answer) (n : Numbers) (used end : ℕ) (p r : Play) (d e : List ℕ) → Shows (shown a) n
-    → Wrote 86 (line_text clock letter n.number n.first n.second) d e p.end end → r ≡ passed_by p used end
-    → Told (answer_text clock letter a) used p r d e
+pub told_is : (clock letter : ℕ) (a : Answer) (n : Numbers) (d e : List ℕ) (at q : ℕ) → Shows (shown a) n
+    → Wrote 86 (line_text clock letter n.number n.first n.second) d e at q → Wrote 86 (answer_text clock letter a) d e at q
 unfolding answer_text
-told_is clock letter a n used end p r d e s w h =
-    rw h record { wrote = rw (s.number, s.first, s.second) at w; passes = record { from = refl; to = refl; line = refl; over = refl } }
+told_is clock letter a n d e at q s w = rw (s.number, s.first, s.second) at w
 
 -- ---- the words that wait
 
@@ -133,16 +119,14 @@ module _ (p r : Play) (words before after : List ℕ) (order : p.from ≤ p.to) 
   pub did_unread : (k : ℕ) → Did k (unread s (queue_of words p) p.line) s p r words words before after
   did_unread k = record {
     wrote = u.wrote;
-    moved = record {
-      session = refl;
-      queue = rw (u.from, u.to);
-      order = omega (arith, u.from, u.to);
-      most = omega (arith, u.to);
-      over = u.over;
-      line = λ z. absurd (true≢false (sym u.over ∙ z));
-      words = refl;
-      waited = refl;
-    };
+    session = refl;
+    queue = rw (u.from, u.to);
+    order = omega (arith, u.from, u.to);
+    most = omega (arith, u.to);
+    over = u.over;
+    line = λ z. absurd (true≢false (sym u.over ∙ z));
+    words = refl;
+    waited = refl;
   }
 
 -- ---- words
@@ -159,16 +143,14 @@ module _ (clock : ℕ) (p : Play) (w : ℕ) (words before : List ℕ) (ready : R
         did = λ s e.
             rw f record {
               wrote = wrote_none 86 before p.end;
-              moved = record {
-                session = refl;
-                queue = queue_push words p.from p.to ready.order ready.within w h;
-                order = omega (arith, ready.order);
-                most = omega arith;
-                over = refl;
-                line = λ z. refl;
-                words = length-set words p.to w;
-                waited = take-set-le p.to words p.to w (omega arith);
-              };
+              session = refl;
+              queue = queue_push words p.from p.to ready.order ready.within w h;
+              order = omega (arith, ready.order);
+              most = omega arith;
+              over = refl;
+              line = λ z. refl;
+              words = length-set words p.to w;
+              waited = take-set-le p.to words p.to w (omega arith);
             };
       }
 
@@ -234,11 +216,12 @@ module _ (s : Session) (c : Call) (p : Play) (l words before : List ℕ) (ready 
   used_order =
       omega (arith, ready.order, ap length e, queue_length words p.from p.to ready.order ready.within, call_used s l c, ap (λ (z : Outcome). z.used) f)
 
-  -- the words that it used leave the queue
-  pub call_moves : (r : Play) → Passes o.used p r → Moved 0 (step_of s (queue_of words p) p.line (CallLine c)) o.session p r words words
+  pub did_call : (letter : ℕ) (r : Play) (after : List ℕ) → letter ≡ letter_of c → Told (answer_text o.session.clock letter o.answer) o.used p r before after
+      → Did 0 (step_of s (queue_of words p) p.line (CallLine c)) o.session p r words words before after
   unfolding step_of
-  call_moves r t =
-      rw (← e, ← f) record {
+  did_call letter r after g t =
+      rw (← e, ← f, ← g) record {
+        wrote = t.wrote;
         session = refl;
         queue = rw (t.from, t.to) (sym (drop-drop o.used p.from (take p.to words))) ∙ ap (drop o.used) (sym e);
         order = omega (arith, used_order, t.from, t.to);
@@ -248,11 +231,6 @@ module _ (s : Session) (c : Call) (p : Play) (l words before : List ℕ) (ready 
         words = refl;
         waited = refl;
       }
-
-  did_call : (letter : ℕ) (r : Play) (after : List ℕ) → letter ≡ letter_of c → Told (answer_text o.session.clock letter o.answer) o.used p r before after
-      → Did 0 (step_of s (queue_of words p) p.line (CallLine c)) o.session p r words words before after
-  unfolding step_of
-  did_call letter r after g t = record { wrote = rw (← e, ← f, ← g) t.wrote; moved = call_moves r t.passes }
 
 -- ---- any line
 

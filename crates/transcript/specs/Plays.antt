@@ -14,7 +14,8 @@ use Rattle.session.specs.declared.Session.{Session}
 use Rattle.session.specs.Sound.{sound}
 use Rattle.transcript.specs.declared.step.Play.{Play}
 use Rattle.transcript.specs.Step.{queue_limit, step_of, calls_text}
-use Rattle.transcript.specs.Play.{queue_of, words_in, Ready, Moved, Did, Aside}
+use Rattle.transcript.specs.Play.{queue_of, words_in, Ready, Did, Aside}
+use Rattle.transcript.specs.Moves.{Moved, did_moved}
 use Rattle.transcript.specs.Kept.{Kept, kept_call}
 use Rattle.transcript.specs.Short.{open_short}
 
@@ -78,10 +79,11 @@ module _ (text : List ℕ) (s : Session) (p : Play) (words : List ℕ) (at : ℕ
   pub reached_place : p.to + words_in n.line ≤ length words
   reached_place = omega (arith, now.queued, now.places, now.limit, t.size, t.within, words_size n.line)
 
-  pub reached_next : (s' : Session) (r : Play) (words' : List ℕ)
+  -- whatever is printed
+  pub reached_moved : (s' : Session) (r : Play) (words' : List ℕ)
       → Moved (words_in n.line) (step_of s (queue_of words p) p.line n.line) s' p r words words' → r.over ≡ false
       → Reached text s' r words' n.at
-  reached_next s' r words' d e = record {
+  reached_moved s' r words' d e = record {
     limit = now.limit;
     place = t.within;
     kept = rw d.session (kept_step s (queue_of words p) p.line n.line now.kept);
@@ -90,6 +92,11 @@ module _ (text : List ℕ) (s : Session) (p : Play) (words : List ℕ) (at : ℕ
     queued = omega (arith, now.queued, d.most, t.size, words_size n.line);
     line = omega (arith, d.line e, now.line, t.size, size_some n.line);
   }
+
+  pub reached_next : (s' : Session) (r : Play) (words' out out' : List ℕ)
+      → Did (words_in n.line) (step_of s (queue_of words p) p.line n.line) s' p r words words' out out' → r.over ≡ false
+      → Reached text s' r words' n.at
+  reached_next s' r words' out out' d e = reached_moved s' r words' (did_moved d) e
 
 -- ---- the loop
 
@@ -158,12 +165,12 @@ module _ (text : List ℕ) (start : ℕ) (s₀ : Session) (p₀ : Play) (first :
         (d : Did (words_in n.line) (step_of s (queue_of words p) p.line n.line) s' p r words words' out out') where
       owed_over : r.over ≡ true → owed text s p words at ≡ (step_of s (queue_of words p) p.line n.line).text
       unfolding calls_text
-      owed_over e = rw (t.lines, sym d.moved.over ∙ e) (append-nil _)
+      owed_over e = rw (t.lines, sym d.over ∙ e) (append-nil _)
 
       owed_more : r.over ≡ false
           → owed text s p words at ≡ (step_of s (queue_of words p) p.line n.line).text ++ owed text s' r words' n.at
       unfolding calls_text
-      owed_more e = rw (t.lines, sym d.moved.over ∙ e, d.moved.line e, add-one, d.moved.session, d.moved.queue)
+      owed_more e = rw (t.lines, sym d.over ∙ e, d.line e, add-one, d.session, d.queue)
 
       play_over : r.over ≡ true → Whole r.end out'
       play_over e =
@@ -173,12 +180,12 @@ module _ (text : List ℕ) (start : ℕ) (s₀ : Session) (p₀ : Play) (first :
       pub play_next : r.over ≡ false → Playing text start s₀ p₀ first s' r words' out' n.at
       play_next e =
           let x = step_of s (queue_of words p) p.line n.line in
-          let short = open_short s now.reached.kept (queue_of words p) p.line n.line (sym d.moved.over ∙ e) d.wrote.short in
+          let short = open_short s now.reached.kept (queue_of words p) p.line n.line (sym d.over ∙ e) d.wrote.short in
           let fits : p.end + length x.text ≤ length out =
           omega (arith, d.wrote.short, now.end, now.owing.same, now.begun.room, now.reached.place) in
           record {
             begun = now.begun;
-            reached = reached_next text s p words at now.reached n t s' r words' d.moved e;
+            reached = reached_next text s p words at now.reached n t s' r words' out out' d e;
             end = omega (arith, d.wrote.place, short, now.end, t.size);
             owing = owing_next _ _ _ _ _ _ now.owing 86 x.text (owed text s' r words' n.at) out' r.end (owed_more e) fits d.wrote;
           }

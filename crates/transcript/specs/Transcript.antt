@@ -51,7 +51,7 @@ output_of input = printed_of (lines_of (take input_limit input))
 -- a buffer of this length holds every output for n bytes of input: 22 bytes for each of them that is read, 86 for the line
 -- `M`, 87 for each of 16 lines `B`, and 86 for a line `?`
 abbrev pub room_for : ℕ → ℕ
-room_for n = room_in 1564 22 input_limit n
+room_for n = room_in 22 input_limit n
 
 -- the contract of `transcribe`. No output has length 0 (`zero_short` in Empty.antt).
 abbrev pub Transcribed : List ℕ → List ℕ → List ℕ → ℕ → Type 0

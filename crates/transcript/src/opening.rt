@@ -1,7 +1,8 @@
 // The table: what is printed of it, and where the calls start (docs/SPECIFICATION.md §8.4). Internal: public for `narration` and
 // `response`, whose output begins the same.
 ghost use Rattle.std.specs.Prelude.{◌≡◌, ◌≤◌, length};
-ghost use Rattle.transcript.specs.Opening.{Startable, started_by, Judges, Opened};
+ghost use Rattle.transcript.specs.Opening.{Opened};
+ghost use Rattle.transcript.specs.Opens.{Startable, started_by, Judges};
 
 use crate::rows::{Rows, read_rows};
 use crate::step::Play;

@@ -3,7 +3,8 @@
 ghost use Rattle.std.specs.Prelude.{◌≡◌, true, ◌+◌, ◌≤◌, ◌<◌, ◌^◌, length};
 ghost use Rattle.session.specs.Sound.{sound};
 ghost use Rattle.transcript.specs.Step.{letter_of, call_of, answer_text, step_of};
-ghost use Rattle.transcript.specs.Play.{Room, Ready, passed_by, Told, Unread, Queued, Did, Aside, queue_of, words_in};
+ghost use Rattle.transcript.specs.Moves.{passed_by};
+ghost use Rattle.transcript.specs.Play.{Room, Ready, Told, Unread, Queued, Did, Aside, queue_of, words_in};
 
 use lines::read::{Call, Line};
 use lines::write::put_line;

@@ -1,6 +1,6 @@
-use Rattle.report.specs.Whole.{room_of_least}
+use Rattle.report.specs.Whole.{room_from_least}
 use borrow.Author.Rules.{rules}
 use Rattle.response.proofs.room_for.Goals as goal
 
 pub returns : goal.returns
-returns c = search (rules, room_of_least)
+returns c = search (rules, room_from_least)

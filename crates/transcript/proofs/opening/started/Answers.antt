@@ -1,6 +1,6 @@
 use Rattle.std.proofs.Common.{arith, sym}
 use Rattle.std.proofs.Math.Seq.{length-take-le}
-use Rattle.transcript.specs.Opening.{started_laws}
+use Rattle.transcript.specs.Opens.{started_laws}
 use borrow.Author.Rules.{rules}
 use Rattle.transcript.proofs.opening.started.Goals as goal
 
