@@ -40,12 +40,5 @@ pub all_next : (p : ℕ → Bool) (i : ℕ) (b : Bool) → all_to p i ≡ true �
 unfolding all_to
 all_next p i b h e t = rw add-one (simp (h, sym e ∙ t))
 
--- the loop's bound n is the length m that the definition names
-pub all_fails : (p : ℕ → Bool) (i n m : ℕ) (b : Bool) → i < n → n ≡ m → b ≡ p i → b ≡ false → false ≡ all_to p m
-all_fails p i n m b l k e f =
-    both (all_to p m) (λ t. absurd (true≢false (sym (all_at p m t i (omega arith)) ∙ sym e ∙ f))) (λ t. sym t)
-
 pub all_done : (p : ℕ → Bool) (i n m : ℕ) → all_to p i ≡ true → i ≤ n → n ≤ i → n ≡ m → true ≡ all_to p m
 all_done p i n m h l k e = let j : i ≡ m = omega arith in sym (ap (all_to p) (sym j) ∙ h)
-
-pub ruleset all_laws = (all_start, all_next, all_fails, all_done)

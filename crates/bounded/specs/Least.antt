@@ -76,5 +76,3 @@ first_found p i n m b h l k e t = least_found p 0 m i (omega arith) (omega arith
 
 pub first_none : (p : ℕ → Bool) (i n m : ℕ) → Passed p i → n ≤ i → n ≡ m → n ≡ least_from p 0 m
 first_none p i n m h l k = omega (arith, least_none p 0 m (λ j u v. h.none j (omega arith)))
-
-pub ruleset first_laws = (passed_start, passed_next, first_found, first_none)

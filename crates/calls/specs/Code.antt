@@ -1,4 +1,5 @@
 -- The code of the calls: each way out is a case of its definition (docs/SPECIFICATION.md §5.3, §5.5, §5.6). Assumes nothing.
+-- ---- what soundness gives the code
 use Rattle.std.specs.Prelude.{ℕ, ◌+◌, ◌-◌, ◌*◌, ◌≤◌, ◌<◌, min, ◌≡◌, refl, Bool, true, false, not, ◌&&◌, cond, List, leb, eqb, ltb, ℤ, length, get_or, set, replicate}
 use Rattle.std.proofs.Math.Path.{sym, ap}
 use Rattle.std.proofs.Common.{subst, ◌∙◌, ⊎_elim, Fits}
@@ -19,7 +20,7 @@ use Rattle.bounded.specs.Within.{Within}
 use Rattle.table.specs.Budgets.{budget_of, brittle}
 use Rattle.table.specs.declared.inverse.Prepared.{Prepared}
 use Rattle.table.specs.Statement.{HasKind}
-use Rattle.table.specs.Theorems.{kind_means}
+use Rattle.table.proofs.TheoremsLaws.{kind_means}
 use Rattle.table.specs.Inverse.{Ready}
 use Rattle.session.specs.declared.Job.{Job}
 use Rattle.session.specs.declared.Session.{Session}
@@ -36,8 +37,6 @@ use Rattle.session.specs.Ahead.{ahead_by, DueOf, ahead_is}
 use Rattle.session.specs.Brittle.{rows_count, Marks}
 use Rattle.session.specs.Calls.{refused, changed, over_job_lem, with_budget, stepped_of, arrived_by, arrived_job, arrive_in, aged_job, over_by, over_after, advance_in, unused_of, gains, given_job, finished_of, finish_in}
 use Rattle.session.specs.Jobs.{done_to, done_past, done_next}
-
--- ---- what soundness gives the code
 
 pub facts_rows : (s : Session) (i : ℕ) → Facts s → length s.words ≡ 48 → i < s.count → Fit (tasks s) × (i < (tasks s).rows)
 facts_rows s i f places l = (facts_fit s f, omega (arith, rows_count s f.few places))
@@ -89,7 +88,7 @@ module _ (j : Job) (d : ℕ) where
   unfolding pending_by
   pending_due l = sym (gate_on _ j.left (le-leb j.due d l))
 
-  pending_most : pending_by j d ≤ j.left
+  pub pending_most : pending_by j d ≤ j.left
   unfolding pending_by
   pending_most = gate_le _ j.left
 
@@ -110,20 +109,6 @@ pub load_fits : (j : Job) (d p w : ℕ) → j.left ≤ 1000000 → p ≡ pending
 load_fits j d p w few e h = record { fits = omega (arith, e, pending_most j d) }
 
 pub ruleset load_cases = (load_is, load_fits)
-
--- and that is the theory's
-pending_row : (s : Session) (d i : ℕ) → pending_by (job_at s i) d ≡ pending (state_of s) d i
-unfolding pending_by pending waits
-pending_row s d i =
-    both (waits s i) (λ w. sym (gate_on (waits s i) _ w))
-    (λ w. omega (arith, ltb-false 0 (job_at s i).left w, pending_most (job_at s i) d, gate_off (waits s i) (pending_by (job_at s i) d) w))
-
-load_row : (s : Session) (k : Prepared) (i x : ℕ) → Ready (tasks s) i k → load_by k (job_at s i) s.clock x ≡ row_load (tasks s) (state_of s) (s.clock + x) i
-unfolding load_by to_come
-load_row s k i x f =
-    let r = f.row in
-    let e : x - ((job_at s i).next - s.clock) ≡ s.clock + x - soonest (state_of s) i = omega arith in
-    rw (r.run, r.deadline, r.period, e, pending_row s (s.clock + x) i)
 
 -- what the other rows ask for, row by row, by the deadline of a job of row i that arrives now
 abbrev pub asked_of : Session → ℕ → ℕ → ℕ
@@ -268,12 +253,6 @@ module _ {s : Session} {i : ℕ} {l : List ℕ} {m : List Bool} {t : Task} {cloc
 
     -- one row more
     module _ (k : Prepared) (x r : ℕ) (f : Ready (tasks_of l) j k) (w : Within 1000001000000 (gate (not (eqb j i)) (load_by k (job_at s j) clock t.deadline)) r) where
-      pub asked_next : x ≡ sum_to (asked_of s i) j → x + r ≡ sum_to (asked_of s i) (j + 1)
-      asked_next e =
-          let d = a.task.row in
-          let g : Ready (tasks s) j k = subst (λ (z : List ℕ). Ready (tasks_of z) j k) a.table f in
-          sum_next (asked_of s i) j x r e (w.is ∙ rw (a.now, load_row s k j t.deadline g, d.deadline))
-
       pub asked_small : x ≤ 1000001000000 * j → x + r ≤ 1000001000000 * (j + 1)
       asked_small b = omega (arith, w.small)
 
@@ -450,7 +429,7 @@ module _ (j : Job) (i c due n : ℕ) where
 
 pub ruleset aged_cases = (aged_over, aged_runs, aged_loses, aged_keeps)
 
-aged_row : (s : Session) (due n i : ℕ) → DueOf s s.chosen due → aged_by (job_at s i) i s.chosen due n ≡ aged_job s n i
+pub aged_row : (s : Session) (due n i : ℕ) → DueOf s s.chosen due → aged_by (job_at s i) i s.chosen due n ≡ aged_job s n i
 unfolding aged_by aged_job
 aged_row s due n i d = rw (ahead_is s s.chosen due d i)
 
@@ -460,13 +439,6 @@ place_job s at b e ne = ap (job_at s) (e ∙ sym (place_row s.chosen (b.row ne))
 
 pub place_due : (s : Session) (at : ℕ) → ChoiceBounds s → at ≡ place_of s.chosen → DueOf s s.chosen (job_at s at).due
 place_due s at b e = record { is = λ ne. ap (λ z. z.due) (place_job s at b e ne) }
-
-pub aged_next : (s q : Session) (n i at : ℕ) (j : Job) → q ≡ done_to s (aged_job s n) i → ChoiceBounds s → at ≡ place_of s.chosen
-    → j ≡ aged_by (job_at q i) i s.chosen (job_at s at).due n
-    → changed q q.clock (set q.jobs i j) q.chosen q.span ≡ done_to s (aged_job s n) (i + 1)
-aged_next s q n i at j e b p f =
-    done_next s (aged_job s n) q i j e
-    ((rw (done_past s (aged_job s n) q i e) at f) ∙ aged_row s (job_at s at).due n i (place_due s at b p))
 
 module _ (c left n : ℕ) where
   pub over_idle : c ≡ idle → 0 ≡ over_by c left n

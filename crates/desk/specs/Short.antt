@@ -11,7 +11,7 @@ use Rattle.lines.specs.Text.{line_text, line_length}
 use Rattle.table.specs.Rows.{tasks_of}
 use Rattle.table.specs.Verdict.{bad_length, opinion_of}
 use Rattle.table.specs.Statement.{HasKind, is_loose, is_tight, is_mixed}
-use Rattle.table.specs.Theorems.{kind_means, opinion_admitted}
+use Rattle.table.proofs.TheoremsLaws.{kind_means, opinion_admitted}
 use Rattle.report.specs.Text.{opinion_text, budgets_text}
 use Rattle.report.specs.Put.{Reported}
 

@@ -16,7 +16,7 @@ use Rattle.table.specs.Rows.{tasks_of}
 use Rattle.table.specs.Words.{words_with, words_places, words_more}
 use Rattle.table.specs.Verdict.{Opinion, opinion_of}
 use Rattle.table.specs.Opinion.{shown_of}
-use Rattle.table.specs.Theorems.{opinion_admitted}
+use Rattle.table.proofs.TheoremsLaws.{opinion_admitted}
 use Rattle.report.specs.Text.{opinion_text}
 use Rattle.report.specs.Put.{Reported}
 use Rattle.desk.specs.declared.step.Progress.{Progress}

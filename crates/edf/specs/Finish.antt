@@ -4,29 +4,19 @@ use Rattle.std.proofs.Common.{sym, ◌∙◌, true≢false, arith}
 use Rattle.std.proofs.Math.Logic.{dite}
 use Rattle.std.proofs.Math.Decide.{dec_lt}
 use Rattle.edf.specs.Demand.{TaskSet, Lawful, Feasible}
-use Rattle.edf.specs.State.{State, soonest, pending, load, WellFormed, Slack, SlackOn, AllSlack, Elapsed, pending_idle, pending_in, soonest_le, load_has, load_less, free_slack, on_le}
+use Rattle.edf.specs.State.{State, soonest, pending, load, WellFormed, Slack, SlackOn, AllSlack, Elapsed, pending_idle, pending_in, soonest_le, load_has, on_le}
 use Rattle.edf.specs.Steps.{Over, Finish, Start}
 
 module _ (τ : TaskSet) (ok : Lawful τ) (s s' : State) (k : ℕ) (st : Over τ k s s') where
   -- a job that waits after it is of another row, and waited before it
-  over_other : (i : ℕ) → s'.waits i ≡ true → ¬ (i ≡ k)
+  pub over_other : (i : ℕ) → s'.waits i ≡ true → ¬ (i ≡ k)
   over_other i w e = true≢false (sym w ∙ rw e st.waits)
 
-  over_waits : (i : ℕ) → i < τ.rows → s'.waits i ≡ true → s.waits i ≡ true
+  pub over_waits : (i : ℕ) → i < τ.rows → s'.waits i ≡ true → s.waits i ≡ true
   over_waits i l w = sym (st.others i l (over_other i w)).waits ∙ w
 
   pub over_soonest : (i : ℕ) → i < τ.rows → soonest s i ≤ soonest s' i
   over_soonest = soonest_le τ ok s s' (omega arith) k st.row st.others (omega arith)
-
-  over_fall : (d n : ℕ) → pending s' d k + n ≤ pending s d k → load τ s' d + n ≤ load τ s d
-  over_fall = load_less τ ok s s' (omega arith) k st.row st.others (omega arith)
-
-  -- the load by a time from its deadline on falls by what was left of it, and no other grows
-  pub over_less : (d : ℕ) → s.due k ≤ d → load τ s' d + s.left k ≤ load τ s d
-  over_less d h = over_fall d (s.left k) (omega (arith, pending_idle s' d k st.waits, pending_in s d k st.waiting h))
-
-  pub over_le : (d : ℕ) → load τ s' d ≤ load τ s d
-  over_le d = omega (arith, over_fall d 0 (omega (arith, pending_idle s' d k st.waits)))
 
   pub over_formed : WellFormed τ s → WellFormed τ s'
   over_formed formed i l w =
@@ -34,42 +24,11 @@ module _ (τ : TaskSet) (ok : Lawful τ) (s s' : State) (k : ℕ) (st : Over τ 
       let e = st.others i l (over_other i w) in
       record { some = omega arith; most = omega arith; deadline = omega arith; ahead = omega arith }
 
-  pub over_on : (W W' : ℕ → Type 0) → ((d : ℕ) → W' d → W d) → SlackOn τ s W → SlackOn τ s' W'
-  over_on = on_le τ ok s s' st.clock over_le
-
   pub over_elapsed : Elapsed τ s → Elapsed τ s'
   over_elapsed el i l w = omega (arith, st.others i l (over_other i w), el i l (over_waits i l w))
 
-module _ (τ : TaskSet) (ok : Lawful τ) (s s' : State) (k : ℕ) where
-  -- unused ticks given as budget to jobs of later deadline keep the slack
-  pub finish_slack : Finish τ k s s' → Slack τ s → Slack τ s'
-  finish_slack f sl i l w =
-      let st = f.over in
-      let ne = over_other τ ok s s' k st i w in
-      let v = over_waits τ ok s s' k st i l w in
-      let e = st.others i l ne in
-      rw e.due
-      (dite (dec_lt (s.due k) (s.due i))
-      (λ h. omega (arith, over_less τ ok s s' k st (s.due i) (omega arith), sl i l v, f.later i l ne v h))
-      (λ h. omega (arith, over_le τ ok s s' k st (s.due i), sl i l v, f.earlier i l ne v (omega arith))))
-
-  -- and bring no budget above D - C, so that a cap there never cuts anything: by the deadline of a job that gains there is
-  -- time for what is left of both jobs and for its budget, and it has run no longer than since its arrival
-  pub finish_cap : Over τ k s s' → Slack τ s → Elapsed τ s → (i : ℕ) → i < τ.rows → s'.waits i ≡ true → s.due k ≤ s.due i
-      → s.budget i + s.left k + τ.C i ≤ τ.D i
-  finish_cap st sl el i l w h =
-      let v = over_waits τ ok s s' k st i l w in
-      omega (
-        arith,
-        sl i l v,
-        el i l v,
-        st.others i l (over_other τ ok s s' k st i w),
-        over_less τ ok s s' k st (s.due i) h,
-        load_has τ ok s' (s.due i) i l w (omega (arith, st.others i l (over_other τ ok s s' k st i w))),
-      )
-
 module _ (τ : TaskSet) (ok : Lawful τ) (s : State) (st : Start τ s) where
-  start_none : {P : Type 0} (i : ℕ) → i < τ.rows → s.waits i ≡ true → P
+  pub start_none : {P : Type 0} (i : ℕ) → i < τ.rows → s.waits i ≡ true → P
   start_none i l w = absurd (true≢false (sym w ∙ st.waits i l))
 
   pub start_formed : WellFormed τ s
@@ -80,6 +39,3 @@ module _ (τ : TaskSet) (ok : Lawful τ) (s : State) (st : Start τ s) where
 
   pub start_elapsed : Elapsed τ s
   start_elapsed i l w = start_none i l w
-
-  pub start_all : Feasible τ → AllSlack τ s
-  start_all fe d h = free_slack τ ok fe s d (λ i l w. start_none i l w) h

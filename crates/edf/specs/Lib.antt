@@ -1,7 +1,6 @@
 pub mod Jobs
 pub mod Demand
 pub mod Arrivals
-pub mod Overload
 pub mod State
 pub mod Steps
 pub mod Arrive

@@ -2,5 +2,3 @@ pub mod Game
 pub mod Statement
 pub mod Tick
 pub mod Force
-pub mod Hold
-pub mod Theorems

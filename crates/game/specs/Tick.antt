@@ -9,9 +9,11 @@ use Rattle.bounded.specs.Sum.{sum_eq, sum_le_at}
 use Rattle.bounded.specs.Tests.{both}
 use Rattle.edf.specs.Jobs.{jobs_by_lem, jobs_none}
 use Rattle.edf.specs.Demand.{TaskSet, Lawful, row_demand_lem, demand}
-use Rattle.edf.specs.State.{State, soonest, pending, to_come, row_load, load, WellFormed, Same, pending_in, pending_idle, pending_later, pending_le, pending_same, load_less}
+use Rattle.edf.specs.State.{State, soonest, pending, to_come, row_load, load, WellFormed, Same, pending_in, pending_idle, pending_later, pending_le, pending_same}
+use Rattle.edf.proofs.StateLaws.{load_less}
 use Rattle.edf.specs.Arrivals.{Tick, to, none}
-use Rattle.edf.specs.Arrive.{Came, came_load, came_formed, kept_load, kept_formed}
+use Rattle.edf.specs.Arrive.{Came, came_formed, kept_load, kept_formed}
+use Rattle.edf.proofs.ArriveLaws.{came_load}
 use Rattle.game.specs.Game.{Position, Waits, opening, Legal, released, MayPlay, played, Missed}
 
 -- the position as a state of the scheduler; no job has a budget
@@ -30,43 +32,6 @@ waits_is p i w = lt-ltb 0 (p.left i) w
 
 pub is_waits : (p : Position) (i : ℕ) → (state_of p).waits i ≡ true → Waits p i
 is_waits p i e = ltb-true 0 (p.left i) e
-
--- ---- a release changes no load, and leaves jobs well formed
-
-module _ (τ : TaskSet) (ok : Lawful τ) (p : Position) (formed : WellFormed τ (state_of p)) (r : ℕ → Bool) (legal : Legal τ r p) where
-  abbrev after : Position
-  after = released τ r p
-
-  came : (i : ℕ) → r i ≡ true → Came τ i (state_of p) (state_of after)
-  came i e =
-      let l = legal i e in
-      let left : after.left i ≡ τ.C i = simp e in
-      record {
-        row = l.0;
-        ready = omega (arith, l.1);
-        clock = refl;
-        next = simp e;
-        due = simp e;
-        left = left;
-        waits = waits_is after i (omega (arith, left, (ok i l.0).cost));
-      }
-
-  kept : (i : ℕ) → r i ≡ false → Same (state_of p) (state_of after) i
-  kept i e = record { next = simp e; due = simp e; left = simp e; waits = simp e }
-
-  pub released_load : (d : ℕ) → load τ (state_of after) d ≡ load τ (state_of p) d
-  unfolding load
-  released_load d =
-      sum_eq (row_load τ (state_of after) d) (row_load τ (state_of p) d) τ.rows
-      (λ i l. both (r i) (λ e. came_load τ ok (state_of p) (state_of after) formed i (came i e) d)
-      (λ e. kept_load τ (state_of p) (state_of after) i (kept i e) refl d))
-
-  pub released_formed : WellFormed τ (state_of after)
-  released_formed i l w =
-      both (r i) (λ e. came_formed τ ok (state_of p) (state_of after) formed i (came i e))
-      (λ e.
-      let k = kept i e in
-      kept_formed τ (state_of p) (state_of after) i k refl (formed i l (sym k.waits ∙ w)))
 
 -- ---- a tick
 

@@ -6,7 +6,8 @@ use Rattle.std.proofs.Common.{ap, ◌∙◌, le-leb, lt-ltb, le-ltb}
 use Rattle.std.proofs.Math.Bool.{and-true, or-true, not-not}
 use native.Mathlib.Omega.{arith}
 use Rattle.std.proofs.lemmas.Bool.{lt-leb}
-use Rattle.bounded.specs.All.{all_to, all_fails}
+use Rattle.bounded.specs.All.{all_to}
+use Rattle.bounded.proofs.AllLaws.{all_fails}
 use Rattle.edf.specs.Demand.{TaskSet}
 use Rattle.table.specs.declared.rows.Task.{Task}
 use Rattle.table.specs.Rows.{FitRow}

@@ -6,10 +6,10 @@ use Rattle.bounded.specs.Tests.{both}
 use Rattle.edf.specs.Demand.{TaskSet}
 use Rattle.game.specs.Game.{opening, Forces}
 use Rattle.game.specs.Statement.{ExactlyWhen}
-use Rattle.game.specs.Theorems.{forced_exactly}
+use Rattle.game.proofs.TheoremsLaws.{forced_exactly}
 use Rattle.table.specs.Rows.{tasks_of, fit_lawful}
 use Rattle.table.specs.Verdict.{opinion_of}
-use Rattle.table.specs.Theorems.{admitted_fits, first_overload_lem}
+use Rattle.table.proofs.TheoremsLaws.{admitted_fits, first_overload_lem}
 use Rattle.gametree.specs.declared.board.Slot.{Slot}
 use Rattle.gametree.specs.declared.Finding.{Finding}
 use Rattle.gametree.specs.declared.Finding.TheVariants.{Forced, Held, Refused}

@@ -4,7 +4,8 @@ use Rattle.std.proofs.Common.{sym, ap, subst, ◌∙◌, mul-le-mul_right, arith
 use Rattle.std.proofs.Math.Logic.{dite}
 use Rattle.std.proofs.Math.Decide.{dec_lt}
 use Rattle.bounded.specs.Signed.{difference_is}
-use Rattle.edf.specs.Jobs.{jobs_by_lem, jobs_after, jobs_last}
+use Rattle.edf.specs.Jobs.{jobs_by_lem}
+use Rattle.edf.proofs.JobsLaws.{jobs_after, jobs_last}
 use Rattle.edf.specs.State.{soonest, to_come}
 use Rattle.table.specs.Rows.{tasks_of}
 use Rattle.table.specs.Budgets.{budget_of}

@@ -7,7 +7,7 @@ use Rattle.std.proofs.Math.Dec.{ltb}
 use Rattle.std.proofs.Math.ListN.{length-set}
 use borrow.Author.Tests.{lt-ltb}
 use Rattle.edf.specs.Steps.{Arrive}
-use Rattle.edf.specs.Arrive.{load_arrived}
+use Rattle.edf.proofs.ArriveLaws.{load_arrived}
 use Rattle.edf.specs.Safe.{Step}
 use Rattle.table.specs.Rows.{fit_lawful}
 use Rattle.session.specs.declared.Job.{Job}

@@ -8,7 +8,7 @@ use Rattle.std.proofs.Math.Dec.{ltb}
 use borrow.Author.Tests.{ltb-true, not-true}
 use Rattle.bounded.specs.Tests.{both, and-true}
 use Rattle.edf.specs.Steps.{Over, Finish}
-use Rattle.edf.specs.Finish.{finish_cap}
+use Rattle.edf.proofs.FinishLaws.{finish_cap}
 use Rattle.edf.specs.Safe.{Step}
 use Rattle.table.specs.Rows.{fit_lawful}
 use Rattle.table.specs.Budgets.{brittle}

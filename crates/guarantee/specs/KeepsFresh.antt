@@ -7,12 +7,12 @@ use Rattle.std.proofs.Math.Dec.{ltb}
 use Rattle.std.proofs.Math.ListN.{length-replicate}
 use Rattle.bounded.specs.Fold.{put_length, put_at}
 use Rattle.edf.specs.Steps.{Start}
-use Rattle.edf.specs.Safe.{safe_start}
+use Rattle.edf.proofs.SafeLaws.{safe_start}
 use Rattle.table.specs.Rows.{tasks_of, Fit, fit_lawful}
 use Rattle.table.specs.Budgets.{brittle}
 use Rattle.table.specs.Verdict.{Opinion, bad_length, opinion_of}
 use Rattle.table.specs.Opinion.{good_length}
-use Rattle.table.specs.Theorems.{opinion_fit, admitted_fits}
+use Rattle.table.proofs.TheoremsLaws.{opinion_fit, admitted_fits}
 use Rattle.session.specs.declared.Job.{Job}
 use Rattle.session.specs.declared.Session.{Session}
 use Rattle.session.specs.Reading.{no_job, job_at, rows_of, waits, state_of}

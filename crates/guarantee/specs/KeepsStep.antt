@@ -4,7 +4,8 @@ use Rattle.std.specs.Prelude.{ℕ, ◌+◌, ◌≤◌, ◌<◌, ◌≡◌, refl,
 use Rattle.std.proofs.Common.{ap}
 use Rattle.edf.specs.Demand.{TaskSet}
 use Rattle.edf.specs.State.{State, Same}
-use Rattle.edf.specs.Safe.{Safe, Step, safe_step}
+use Rattle.edf.specs.Safe.{Safe, Step}
+use Rattle.edf.proofs.SafeLaws.{safe_step}
 use Rattle.table.specs.Rows.{fit_lawful}
 use Rattle.table.specs.Budgets.{brittle}
 use Rattle.session.specs.declared.Job.{Job}

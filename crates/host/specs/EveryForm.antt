@@ -6,8 +6,8 @@ use Rattle.session.specs.Start.{start_of}
 use Rattle.guarantee.specs.Ledger.{Call}
 use Rattle.guarantee.specs.Statement.{outcome_of, HostCall, single, batch, session_by, events_by, session_from, events_of}
 use Rattle.guarantee.specs.Keeps.{never_five}
-use Rattle.guarantee.specs.Guarantee.{no_job_late}
-use Rattle.guarantee.specs.Responds.{how_late}
+use Rattle.guarantee.proofs.GuaranteeLaws.{no_job_late}
+use Rattle.guarantee.proofs.RespondsLaws.{how_late}
 use Rattle.host.specs.Reply.{reply_of}
 use Rattle.host.specs.Forms.{Form, by_value, lent, exported, answer_in, events_by_form, events_in, NoJobLateAnyForm, HowLateAnyForm, NeverFiveAnyForm}
 

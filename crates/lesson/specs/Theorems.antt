@@ -4,7 +4,7 @@ use Rattle.std.proofs.Common.{ap, ◌∙◌, append_assoc, append-nil, arith, le
 use Rattle.bounded.specs.Tests.{both, and-true}
 use Rattle.edf.specs.Demand.{TaskSet, Lawful}
 use Rattle.game.specs.Game.{line_to}
-use Rattle.game.specs.Theorems.{line_wins}
+use Rattle.game.proofs.TheoremsLaws.{line_wins}
 use Rattle.lines.specs.Text.{line_text, line_length}
 use Rattle.table.specs.Rows.{tasks_of, fit_lawful}
 use Rattle.gametree.specs.Entry.{search_of, numbers_of}

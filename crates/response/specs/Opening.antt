@@ -10,7 +10,7 @@ use Rattle.table.specs.declared.Verdict.{Verdict}
 use Rattle.table.specs.Rows.{tasks_of, Fit}
 use Rattle.table.specs.Verdict.{opinion_of}
 use Rattle.table.specs.Opinion.{Shows, Says}
-use Rattle.table.specs.Theorems.{opinion_fit, refused_fit, first_overload_lem}
+use Rattle.table.proofs.TheoremsLaws.{opinion_fit, refused_fit, first_overload_lem}
 use Rattle.planning.specs.Planning.{costs_text, cuts_text}
 use Rattle.response.specs.Plan.{besides_text}
 

@@ -28,7 +28,8 @@ use Rattle.guarantee.specs.History.{unended, counts_after}
 use Rattle.guarantee.specs.Late.{Bounded, AllBounded, no_entry, one_more}
 use Rattle.guarantee.specs.TiesRow.{over, waiting, Follows, nothing, other, latest}
 use Rattle.guarantee.specs.After.{event_of}
-use Rattle.guarantee.specs.Responds.{Reached, reached_call, reached_fresh, reached_bounded, bound_is, tied_follows, not_idle_lem}
+use Rattle.guarantee.specs.Responds.{Reached, reached_fresh, reached_bounded, bound_is, tied_follows, not_idle_lem}
+use Rattle.guarantee.proofs.RespondsLaws.{reached_call}
 use Rattle.transcript.specs.Step.{queue_limit, step_of}
 use Rattle.transcript.specs.Kept.{as_call, call_is}
 use Rattle.transcript.specs.Transcript.{input_limit, row_limit, rows_in}

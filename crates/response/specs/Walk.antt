@@ -19,7 +19,7 @@ use Rattle.lines.specs.declared.read.Next.{Next}
 use Rattle.lines.specs.Lines.{lines_of, lines_end, least_size, Took}
 use Rattle.table.specs.Rows.{tasks_of, Fit}
 use Rattle.table.specs.Verdict.{opinion_of}
-use Rattle.table.specs.Theorems.{opinion_fit}
+use Rattle.table.proofs.TheoremsLaws.{opinion_fit}
 use Rattle.session.specs.declared.Session.{Session}
 use Rattle.session.specs.declared.Answer.{Answer}
 use Rattle.session.specs.Reading.{job_at, waits}

@@ -27,7 +27,8 @@ use Rattle.guarantee.specs.Good.{Good, good_places}
 use Rattle.guarantee.specs.Effects.{Effect, refusal, arrived, chosen, advanced, finished, effect_of}
 use Rattle.guarantee.specs.KeepsJobs.{job_after, aged_passed, aged_worked, given_other, given_over}
 use Rattle.guarantee.specs.TiesRow.{Follows}
-use Rattle.guarantee.specs.Responds.{Reached, reached_call, reached_paired, tied_idle, tied_later}
+use Rattle.guarantee.specs.Responds.{Reached, reached_paired, tied_idle}
+use Rattle.guarantee.proofs.RespondsLaws.{reached_call, tied_later}
 use Rattle.guarantee.specs.After.{event_of}
 use Rattle.response.specs.Jobs.{JobLine, latest_of, line_by_lem, line_of, ended_by, ended as ended_item, pending, ended_items, pending_item}
 use Rattle.response.specs.Latest.{latest_waits, latest_none, latest_counted, counted_paired, latest_changed}

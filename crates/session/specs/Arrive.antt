@@ -8,7 +8,7 @@ use Rattle.bounded.specs.Tests.{both}
 use Rattle.bounded.specs.Signed.{difference, difference_sub}
 use Rattle.edf.specs.Demand.{interference}
 use Rattle.edf.specs.State.{load_besides}
-use Rattle.edf.specs.Arrive.{besides_upto}
+use Rattle.edf.proofs.ArriveLaws.{besides_upto}
 use Rattle.table.specs.Rows.{fit_lawful}
 use Rattle.table.specs.Budgets.{budget_of, brittle, firm_row, brittle_row}
 use Rattle.session.specs.declared.Job.{Job}

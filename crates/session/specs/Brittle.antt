@@ -12,7 +12,7 @@ use Rattle.table.specs.declared.budgets.Budgets.{Budgets}
 use Rattle.table.specs.Rows.{tasks_of}
 use Rattle.table.specs.Budgets.{brittle, budgets_of, marks_at}
 use Rattle.table.specs.Statement.{HasKind}
-use Rattle.table.specs.Theorems.{kind_means}
+use Rattle.table.proofs.TheoremsLaws.{kind_means}
 use Rattle.session.specs.declared.Session.{Session}
 use Rattle.session.specs.Reading.{far, job_at, rows_of, tasks, waits}
 use Rattle.session.specs.Order.{next_due, brittle_due_lem, near}

@@ -10,7 +10,7 @@ use Rattle.bounded.specs.All.{all_to, all_at, all_of}
 use Rattle.edf.specs.State.{WellFormed}
 use Rattle.table.specs.Rows.{horizon, tasks_of, Fit}
 use Rattle.table.specs.Verdict.{opinion_of}
-use Rattle.table.specs.Theorems.{opinion_fit}
+use Rattle.table.proofs.TheoremsLaws.{opinion_fit}
 use Rattle.session.specs.declared.Session.{Session}
 use Rattle.session.specs.Reading.{idle, clock_end, job_at, rows_of, tasks, waits, ahead, most_budget, state_of}
 use Rattle.session.specs.Sound.{sound_rows, sound_waiting, sound_job, runs, affords, sound_choice, sound}

@@ -11,8 +11,9 @@ use Rattle.table.specs.Rows.{horizon, FitRow, Fit}
 use Rattle.table.specs.declared.kind.Kind.{Kind}
 use Rattle.table.specs.Budgets.{marks_at}
 use Rattle.table.specs.Verdict.{opinion_of}
-use Rattle.table.specs.Kind.{KindFor, kind_none, kind_some}
-use Rattle.table.specs.Theorems.{opinion_fit}
+use Rattle.table.specs.Kind.{KindFor, kind_some}
+use Rattle.table.proofs.KindLaws.{kind_none}
+use Rattle.table.proofs.TheoremsLaws.{opinion_fit}
 use Rattle.session.specs.declared.Job.{Job}
 use Rattle.session.specs.declared.Session.{Session}
 use Rattle.session.specs.declared.sound.Check.{Check}

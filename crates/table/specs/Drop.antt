@@ -12,7 +12,8 @@ use Rattle.std.specs.Int.{w64}
 use borrow.Author.Tests.{le-leb, lt-leb, lt-ltb, le-ltb, ltb-true, ltb-false}
 use Rattle.bounded.specs.Tests.{both, gate, gate_on, gate_off}
 use Rattle.bounded.specs.Sum.{sum_to, sum_le, sum_add, sum_mul, sum_start, sum_next}
-use Rattle.edf.specs.Jobs.{jobs_by_lem, jobs_mono, jobs_room}
+use Rattle.edf.specs.Jobs.{jobs_by_lem}
+use Rattle.edf.proofs.JobsLaws.{jobs_mono, jobs_room}
 use Rattle.edf.specs.Demand.{TaskSet, row_demand_lem, demand}
 use Rattle.table.specs.declared.inverse.Prepared.{Prepared}
 use Rattle.table.specs.declared.drop.Holding.{Holding}

@@ -1,5 +1,6 @@
 -- What a session's check asks of a table, its kind and which rows are brittle, and the cases of its code
 -- (docs/SPECIFICATION.md §5.2). Assumes nothing.
+-- ---- the code's ways out, for rows that keep their rule
 use Rattle.std.specs.Prelude.{ℕ, ◌≤◌, ◌<◌, ◌≡◌, refl, Bool, List, eqb, length}
 use Rattle.std.proofs.Common.{sym, ◌∙◌, arith}
 use Rattle.std.proofs.Math.Path.{ap}
@@ -16,10 +17,7 @@ use Rattle.table.specs.Statement.{HasKind}
 use Rattle.table.specs.Overload as search
 use Rattle.table.specs.Verdict.{bad_length, heavy_kind, overloaded, settled, judged_of, opinion_of, kind_in, kind_of}
 use Rattle.table.specs.Opinion.{is_loose_lem, is_marks, heavy_kind_lem, say_fit}
-use Rattle.table.specs.Theorems.{kind_means}
 use Rattle.table.specs.Settle.{found, none, Settles, unsettled_by, settled_by, fits_by, over_by}
-
--- ---- the code's ways out, for rows that keep their rule
 
 abbrev pub fit_kind_lem : TaskSet → Kind
 fit_kind_lem τ = record { number = kind_in (judged_of τ); brittle = marks_of τ }
@@ -99,23 +97,9 @@ module _ (l : List ℕ) (b : Bool) (e : b ≡ bad_length (length l)) (i n : ℕ)
     brittle = λ ne. ap (λ (x : Kind). x.brittle) j;
   }
 
-pub ruleset kind_cases = (kind_length, kind_row, say_fit, kind_judged)
-
 -- ---- what a kind says of the opinion
 
 module _ (l : List ℕ) where
-  first_some : (opinion_of l).number ≡ 0 → (opinion_of l).first ≡ 0 → ⊥
-  first_some z = by (kind_means l z)
-    where
-      by : {k : ℕ} → HasKind (tasks_of l) k → k ≡ 0 → ⊥
-      by (HasKind.is_loose h) e = omega arith
-      by (HasKind.is_tight h) e = omega arith
-      by (HasKind.is_mixed i j p a q b) e = omega arith
-
-  pub kind_none : kind_of l ≡ 0 → (opinion_of l).number ≡ 0 → ⊥
-  unfolding kind_of
-  kind_none e z = first_some z (simp (eq-eqb (opinion_of l).number 0 z) at e)
-
   pub kind_some : (kind_of l ≡ 0 → ⊥) → ((opinion_of l).number ≡ 0) × ((opinion_of l).first ≡ kind_of l)
   unfolding kind_of
   kind_some ne =

@@ -13,7 +13,8 @@ use Rattle.std.specs.Int.{w64}
 use borrow.Author.Tests.{eq-eqb, ne_eqb, le-leb, lt-leb, lt-ltb, le-ltb, eqb-false, leb-true, leb-false, ltb-true}
 use Rattle.bounded.specs.Tests.{both, gate, gate_on, gate_off}
 use Rattle.bounded.specs.Sum.{sum_to, sum_le, sum_add, sum_mul, sum_start, sum_next}
-use Rattle.bounded.specs.Quotient.{ceil_div, ceil_after, ceil_mono}
+use Rattle.bounded.specs.Quotient.{ceil_div, ceil_after}
+use Rattle.bounded.proofs.QuotientLaws.{ceil_mono}
 use Rattle.edf.specs.Demand.{TaskSet, row_request_lem, request, request_mono}
 use Rattle.table.specs.declared.inverse.Prepared.{Prepared}
 use Rattle.table.specs.declared.leap.Filling.{Filling}

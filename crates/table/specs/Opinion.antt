@@ -238,5 +238,3 @@ module _ (l : List ℕ) (b : Bool) (e : b ≡ bad_length (length l)) where
     pub say_judged : (a : Judgement) → n ≤ i → shown_of a ≡ judged_of (tasks_of l) → shown_of a ≡ opinion_of l
     unfolding opinion_of
     say_judged a h j = simp (sym e ∙ no, le-ltb (first_broken_lem (tasks_of l)) (tasks_of l).rows (omega arith)) j
-
-pub ruleset opinion_cases = (say_length, say_row, say_fit, say_judged)

@@ -3,7 +3,8 @@ use Rattle.std.specs.Prelude.{ℕ, ◌+◌, ◌-◌, ◌≤◌, ◌<◌, min, �
 use Rattle.std.proofs.Math.Logic.{dite}
 use Rattle.std.proofs.Common.{arith}
 use Rattle.std.proofs.Math.Decide.{dec_le, dec_lt}
-use Rattle.edf.specs.Demand.{TaskSet, demand, quick_search}
+use Rattle.edf.specs.Demand.{TaskSet, demand}
+use Rattle.edf.proofs.DemandLaws.{quick_search}
 use Rattle.table.specs.declared.overload.Found.{Found}
 use Rattle.table.specs.Rows.{Fit, fit_lawful}
 use Rattle.bounded.specs.Within.{Within}
@@ -60,5 +61,3 @@ pub found_exceeds : (τ : TaskSet) (end y : ℕ) (f : Found) → Searched τ 0 e
 found_exceeds τ end y f (over e) m ne =
     record { low = e.low; high = omega (arith, e.high); is = e.is; over = e.over; counted = omega (arith, e.counted) }
 found_exceeds τ end y f (none z c g) m ne = absurd (ne z)
-
-pub ruleset overload_laws = (clear_start, clear_next, clear_falls, clear_over, clear_end)

@@ -2,7 +2,8 @@
 use Rattle.std.specs.Prelude.{ℕ, ◌≤◌, ◌*◌, ◌≡◌}
 use Rattle.std.proofs.Common.{◌∙◌, arith, Fits}
 use Rattle.std.specs.Int.{w64}
-use Rattle.bounded.specs.Quotient.{ceil_div, ceil_small}
+use Rattle.bounded.specs.Quotient.{ceil_div}
+use Rattle.bounded.proofs.QuotientLaws.{ceil_small}
 use Rattle.edf.specs.Demand.{TaskSet, row_request_lem}
 use Rattle.table.specs.declared.inverse.Prepared.{Prepared}
 use Rattle.table.specs.Rows.{horizon}

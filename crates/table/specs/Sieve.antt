@@ -11,9 +11,11 @@ use Rattle.std.proofs.Math.Decide.{dec_le, dec_lt}
 use Rattle.std.proofs.Math.ListN.{get_or, get_or-replicate, length-replicate, get_or-eq_default}
 use Rattle.std.proofs.Math.Seq.{get_or-set_other}
 use Rattle.std.specs.Int.{w32, w64}
-use Rattle.bounded.specs.Quotient.{ceil_div, ceil_after, ceil_least, ceil_more, ceil_mono}
+use Rattle.bounded.specs.Quotient.{ceil_div, ceil_after, ceil_least}
+use Rattle.bounded.proofs.QuotientLaws.{ceil_more, ceil_mono}
 use Rattle.bounded.specs.Sum.{sum_to, sum_eq, sum_add, sum_zero, sum_eq_at, sum_term, sum_upto, sum_next}
-use Rattle.edf.specs.Jobs.{jobs_by_lem, jobs_after, jobs_mono, jobs_room}
+use Rattle.edf.specs.Jobs.{jobs_by_lem}
+use Rattle.edf.proofs.JobsLaws.{jobs_after, jobs_mono, jobs_room}
 use Rattle.edf.specs.Demand.{TaskSet, demand, request}
 use Rattle.table.specs.declared.inverse.Prepared.{Prepared}
 use Rattle.table.specs.Rows.{Fit}

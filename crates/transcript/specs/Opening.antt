@@ -12,7 +12,7 @@ use Rattle.table.specs.Rows.{tasks_of}
 use Rattle.table.specs.Verdict.{Opinion, opinion_of}
 use Rattle.table.specs.declared.Judgement.{Judgement}
 use Rattle.table.specs.Opinion.{shown_of, Shows, shows_of}
-use Rattle.table.specs.Theorems.{opinion_admitted}
+use Rattle.table.proofs.TheoremsLaws.{opinion_admitted}
 use Rattle.report.specs.Text.{opinion_text}
 use Rattle.report.specs.Put.{Reported}
 use Rattle.session.specs.declared.Session.{Session}

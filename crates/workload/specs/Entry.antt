@@ -66,5 +66,3 @@ pub load_none : (input before : List ℕ) (n : Number) → n ≡ seed_of input �
 unfolding load_of
 load_none input before n e f =
     rw (sym e ∙ f) (dite (dec_lt (length before) trial_room) (λ l. too_short l refl refl) (λ l. printed (omega arith) (wrote_none trial_room before 0)))
-
-pub ruleset load_cases = (load_seed, load_none)

@@ -6,7 +6,6 @@ pub mod Loose
 pub mod Stands
 pub mod Accepted
 pub mod Printed
-pub mod Theorems
 pub mod Seed
 pub mod Rows
 pub mod Line

@@ -1,4 +1,5 @@
 -- The code that says the next line. Assumes nothing.
+-- ---- `ready_row`
 use Rattle.std.specs.Prelude.{◌≡◌, ℕ, zero, suc, ◌+◌, ◌-◌, ◌<◌, ◌≤◌, min, Bool, true, false, nat_le}
 use Rattle.std.proofs.Math.Path.{refl, sym, ap}
 use Rattle.std.proofs.Common.{◌∙◌, add-one}
@@ -14,8 +15,6 @@ use Rattle.session.specs.declared.Session.{Session}
 use Rattle.session.specs.Reading.{job_at}
 use Rattle.workload.specs.Numbers.{next_of}
 use Rattle.workload.specs.Trial.{ready_row_lem, ready, until_next_lem, line_by_lem}
-
--- ---- `ready_row`
 
 -- row i may arrive now
 abbrev pub may_arrive : Session → ℕ → Bool
@@ -36,8 +35,6 @@ module _ (s : Session) where
     pub ready_none : n ≤ i → n ≡ s.count → n ≡ ready_row_lem s
     unfolding ready_row_lem
     ready_none l e = first_none (may_arrive s) i n s.count p l e
-
-pub ruleset ready_laws = (ready_start, ready_next, ready_found, ready_none)
 
 -- ---- `until_next`
 

@@ -13,7 +13,8 @@ use Rattle.bounded.specs.All.{all_to, all_at, all_of}
 use Rattle.bounded.specs.Least.{least_from, least_none}
 use Rattle.bounded.specs.Quotient.{ceil_div, ceil_least}
 use Rattle.bounded.specs.Signed.{difference_negative}
-use Rattle.edf.specs.Jobs.{jobs_by_lem, jobs_after, jobs_least}
+use Rattle.edf.specs.Jobs.{jobs_by_lem}
+use Rattle.edf.proofs.JobsLaws.{jobs_after, jobs_least}
 use Rattle.edf.specs.Demand.{TaskSet, Lawful, row_demand_lem, row_request_lem, demand, request, interference, interference_request}
 use Rattle.report.specs.Rows.{row_words, words_append, words_length}
 use Rattle.table.specs.Rows.{horizon, tasks_of, row_rule, broken, first_broken_lem}

@@ -21,7 +21,6 @@ use Rattle.workload.specs.Table.{row_count, table_of}
 use Rattle.workload.specs.Trial.{Trial, trial_lines, line_by_lem, line_for, given_after_call, onward, lines_from, trial_start, call_lines}
 use Rattle.workload.specs.Loose.{count_few}
 use Rattle.workload.specs.Stands.{Stand, rows}
-use Rattle.workload.specs.Accepted.{next_line, first_stand}
 
 -- what the session, p and all words queued so far stand for
 abbrev pub trial_in : Session → Progress → List ℕ → Trial
@@ -132,7 +131,7 @@ pub ruleset aside_cases = (aside_as, aside_call, aside_row, aside_empty, aside_u
 pub data Held (seed : ℕ) (x : Trial) (done : List Line) : Type 0 where
   held : Stand seed x done → Held seed x done
 
-stands : {seed : ℕ} {x : Trial} {done : List Line} → Held seed x done → Stand seed x done
+pub stands : {seed : ℕ} {x : Trial} {done : List Line} → Held seed x done → Stand seed x done
 stands (held h) = h
 
 -- all lines are written up to what is owed now
@@ -147,27 +146,9 @@ pub record Playing (seed start : ℕ) (first : List ℕ) (s : Session) (p : Prog
   pub most : end ≤ start + 65 * length done
   pub owing : Owing (input_text (call_lines seed)) first start (input_text (lines_from left (trial_in s p words))) out end
 
-pub play_start : (seed start rows left : ℕ) (s : Session) (first : List ℕ) → s ≡ session_of (table_of seed) → rows ≡ row_count seed
-    → left ≡ 500 - rows → start + 65 * (trial_lines - row_count seed) ≤ length first
-    → Playing seed start first s (record { from = 0; to = 0; number = seed; given = false }) (replicate 512 0) first start left
-unfolding call_lines trial_start
-play_start seed start rows left s first e r l h =
-    let k : left ≡ trial_lines - row_count seed = omega arith in
-    rw (e, k) (record {
-      done = [];
-      stand = held (first_stand seed);
-      lines = omega arith;
-      order = omega arith;
-      queued = omega arith;
-      places = length-replicate {A = ℕ} 512 0;
-      room = h;
-      most = omega arith;
-      owing = owing_start (input_text (call_lines seed)) first start _ refl;
-    })
-
 module _ (seed start : ℕ) (first : List ℕ) (s : Session) (p : Progress) (words out : List ℕ) (end left : ℕ)
     (now : Playing seed start first s p words out end left) where
-  abbrev x : Trial
+  abbrev pub x : Trial
   x = trial_in s p words
 
   pub play_rows : s.count ≤ 16
@@ -187,33 +168,6 @@ module _ (seed start : ℕ) (first : List ℕ) (s : Session) (p : Progress) (wor
     pub play_room : end + 65 ≤ length out
     play_room = omega (arith, now.most, now.lines, now.room, now.owing.same)
 
-    module _ (y : Line) (t : Session) (r : Progress) (words' out' : List ℕ) (end' : ℕ) (is : y ≡ line_by_lem s p.number p.given)
-        (w : Wrote 65 (input_line y) out out' end end') (g : Went y s t p r words words') where
-      onward_is : trial_in t r words' ≡ onward x (line_for x)
-      onward_is = g.trial ∙ ap (onward x) is
-
-      owed : input_text (lines_from left x) ≡ input_line y ++ input_text (lines_from (left - 1) (trial_in t r words'))
-      unfolding input_text lines_from
-      owed =
-          let k : left ≡ suc (left - 1) = omega arith in
-          ap (λ (m : ℕ). input_text (lines_from m x)) k ∙ rw (is, onward_is)
-
-      pub play_next : Playing seed start first t r words' out' end' (left - 1)
-      play_next =
-          let fits : end + length (input_line y) ≤ length out = omega (arith, play_room, w.short) in
-          let n = next_line seed x now.done (stands now.stand) (omega (arith, now.lines)) in
-          record {
-            done = line_for x ∷ now.done;
-            stand = subst (λ (z : Trial). Held seed z (line_for x ∷ now.done)) (sym onward_is) (held n.stand);
-            lines = omega (arith, now.lines);
-            order = g.order;
-            queued = omega (arith, g.most, now.queued);
-            places = g.places ∙ now.places;
-            room = now.room;
-            most = omega (arith, w.place, w.short, now.most);
-            owing = owing_next _ _ _ _ _ _ now.owing 65 (input_line y) (input_text (lines_from (left - 1) (trial_in t r words'))) out' end' owed fits w;
-          }
-
   pub play_done : left ≤ 0 → Wrote (65 * (trial_lines - row_count seed)) (input_text (call_lines seed)) first out start end
   unfolding lines_from input_text
   play_done l =
@@ -221,5 +175,3 @@ module _ (seed start : ℕ) (first : List ℕ) (s : Session) (p : Progress) (wor
       let none : input_text (lines_from left x) ≡ [] = ap (λ (m : ℕ). input_text (lines_from m x)) z in
       owing_done _ _ _ _ _ _ now.owing (65 * (trial_lines - row_count seed)) none
       (omega (arith, now.owing.total, ap length none, now.most, now.lines))
-
-pub ruleset play_laws = (play_start, play_rows, play_sound, play_ready, play_room, play_next, play_done)

@@ -1,4 +1,5 @@
 -- How a trial stands after each line, so that the next line is accepted and enough of each kind come. Assumes nothing.
+-- ---- the least of b and what f says of 0, .., n - 1
 use Rattle.std.specs.Prelude.{◌≡◌, ℕ, zero, suc, ◌+◌, ◌-◌, ◌*◌, ◌<◌, ◌≤◌, min, Bool, true, false, cond, not, ◌&&◌, ◌⊎◌, List, [], ◌∷◌, ◌++◌, length, drop, ◌==◌, nat_le, nat_lt, slice_set}
 use Rattle.std.proofs.Math.Path.{refl, ap}
 use Rattle.std.proofs.Common.{sym, ◌∙◌, true≢false, get_or-set_same, get_or-set_other}
@@ -33,24 +34,14 @@ use Rattle.workload.specs.Trial.{Trial, ready_row_lem, ready, until_next_lem}
 use Rattle.workload.specs.Statement.{count_of}
 use Rattle.workload.specs.Loose.{count_few, table_rows, table_bounds}
 
--- ---- the least of b and what f says of 0, .., n - 1
-
 module _ (f : ℕ → ℕ) (b : ℕ) where
-  abbrev least_of : ℕ → ℕ
+  abbrev pub least_of : ℕ → ℕ
   least_of n = fold_to (λ m i. min m (f i)) b n
 
   least_le : (n i : ℕ) → i < n → least_of n ≤ f i
   unfolding fold_to
   least_le zero i l = absurd (omega arith)
   least_le (suc n) i l = dite (ℕ_discrete i n) (λ e. rw e (omega arith)) (λ ne. omega (arith, least_le n i (omega arith)))
-
-  least_one : (n : ℕ) → (least_of n ≡ b) ⊎ ((i : ℕ) × (i < n) × (least_of n ≡ f i))
-  unfolding fold_to
-  least_one zero = inl refl
-  least_one (suc n) =
-      dite (dec_lt (f n) (least_of n)) (λ h. inr (n, omega arith, omega arith))
-      (λ h. ⊎_elim (λ e. inl (omega arith))
-      (λ (p : (i : ℕ) × (i < n) × (least_of n ≡ f i)). inr (p.0, omega (arith, p.1), omega (arith, p.2))) (least_one n))
 
 -- ---- what a session's rows say
 
@@ -61,10 +52,6 @@ next_at s i = (job_at s i).next
 abbrev pub running : Session → Bool
 running s = not (ready s) && nat_lt 0 s.span
 
-and_zero : (b : Bool) → (b && false) ≡ false
-and_zero true = refl
-and_zero false = refl
-
 module _ (s : Session) where
   pub ready_row : ready s ≡ true → (ready_row_lem s < s.count) × ((job_at s (ready_row_lem s)).next ≤ s.clock)
   unfolding ready ready_row_lem
@@ -72,25 +59,9 @@ module _ (s : Session) where
       let l = ltb-true (ready_row_lem s) s.count e in
       (l, leb-true _ _ (least_at (λ i. nat_le (job_at s i).next s.clock) 0 s.count (omega arith)))
 
-  not_ready : ready s ≡ false → (i : ℕ) → i < s.count → s.clock < (job_at s i).next
-  unfolding ready ready_row_lem
-  not_ready e i l =
-      leb-false (job_at s i).next s.clock
-      (least_before (λ i. nat_le (job_at s i).next s.clock) 0 s.count i (omega arith) (omega (arith, ltb-false (ready_row_lem s) s.count e)))
-
-  pub row_ready : (i : ℕ) → i < s.count → (job_at s i).next ≤ s.clock → ready s ≡ true
-  row_ready i l h = both (ready s) (λ e. e) (λ e. absurd (omega (arith, not_ready e i l)))
-
-  until_le : (i : ℕ) → i < s.count → until_next_lem s ≤ (job_at s i).next - s.clock
+  pub until_le : (i : ℕ) → i < s.count → until_next_lem s ≤ (job_at s i).next - s.clock
   unfolding until_next_lem
   until_le i l = least_le (λ i. (job_at s i).next - s.clock) horizon s.count i l
-
-  abbrev UntilRow : Type 0
-  UntilRow = (i : ℕ) × (i < s.count) × (until_next_lem s ≡ (job_at s i).next - s.clock)
-
-  until_one : (until_next_lem s ≡ horizon) ⊎ UntilRow
-  unfolding until_next_lem
-  until_one = least_one (λ i. (job_at s i).next - s.clock) horizon s.count
 
 -- ---- the accepted calls
 
@@ -137,16 +108,16 @@ pub record Stand (seed : ℕ) (x : Trial) (done : List Line) : Type 0 where
   pub finishes : count_of 70 done ≡ 0
 
 module _ (seed : ℕ) (x : Trial) (done : List Line) (h : Stand seed x done) where
-  abbrev n : ℕ
+  abbrev pub n : ℕ
   n = row_count seed
 
-  abbrev s : Session
+  abbrev pub s : Session
   s = x.session
 
   pub rows : s.count ≡ n
   rows = h.good.count ∙ table_rows seed
 
-  sound_is : sound s ≡ true
+  pub sound_is : sound s ≡ true
   sound_is = h.good.sound
 
   same_period : (i : ℕ) → (tasks s).T i ≡ (tasks_of (table_of seed)).T i
@@ -163,64 +134,8 @@ module _ (seed : ℕ) (x : Trial) (done : List Line) (h : Stand seed x done) whe
 
   -- `A`: the row's earliest next arrival is now
   module _ (e : ready s ≡ true) where
-    abbrev k : ℕ
+    abbrev pub k : ℕ
     k = ready_row_lem s
-
-    abbrev after : Session
-    after = changed s s.clock (slice_set s.jobs k (arrived_job s k)) 0 0
-
-    known : k < s.count
-    known = (ready_row s e).0
-
-    now_is : next_at s k ≡ s.clock
-    unfolding next_at
-    now_is = omega (arith, (ready_row s e).1, h.behind k (omega (arith, known, rows)))
-
-    arrive_next : next_at after k ≡ s.clock + (tasks s).T k
-    unfolding next_at
-    arrive_next =
-        ap (λ (j : Job). j.next) (get_or-set_same s.jobs k (arrived_job s k) no_job (omega (arith, known, good_places h.good)))
-
-    arrive_other : (i : ℕ) → ¬ (i ≡ k) → next_at after i ≡ next_at s i
-    unfolding next_at
-    arrive_other i ne = ap (λ (j : Job). j.next) (get_or-set_other s.jobs k i (arrived_job s k) no_job ne)
-
-    arrive_sum : sum_to (next_at after) n ≡ sum_to (next_at s) n + (tasks s).T k
-    arrive_sum =
-        omega (
-          arith,
-          now_is,
-          arrive_next,
-          sum_eq_at (next_at s) (next_at after) n k (omega (arith, known, rows)) (λ i p ne. sym (arrive_other i ne)),
-        )
-
-    not_given : x.given ≡ false
-    not_given = both x.given (λ t. absurd (true≢false (sym e ∙ (h.calm t).0))) (λ f. f)
-
-    pub arrived_is : arrive_of s k ≡ arrived_of s k
-    arrived_is = arrive_is s sound_is k known (ready_row s e).1
-
-    pub arrives : Stand seed (record { session = after; queue = x.queue; number = x.number; given = x.given }) (CallLine (Arrive k) ∷ done)
-    unfolding count_of gate
-    arrives =
-        let p = period k (omega (arith, known, rows)) in
-        record {
-          good = ap_good (good_call (table_of seed) s h.good (arrive k));
-          behind = λ i u. dite (ℕ_discrete i k) (λ z. rw z (omega (arith, arrive_next))) (λ ne. omega (arith, arrive_other i ne, h.behind i u));
-          least = omega (arith, arrive_sum, h.least, p);
-          most = omega (arith, arrive_sum, h.most, p);
-          ticks = omega (arith, h.ticks);
-          far = omega (arith, h.far);
-          words = omega (arith, h.words);
-          runs = omega (arith, h.runs, gate_off (running s) 1 (simp e), gate_off (running after) 1 (and_zero (not (ready after))));
-          calm = λ t. absurd (true≢false (sym t ∙ not_given));
-          queue = omega (arith, h.queue);
-          all = omega (arith, h.all);
-          finishes = omega (arith, h.finishes);
-        }
-      where
-        ap_good : Good (table_of seed) (arrive_of s k).session → Good (table_of seed) after
-        ap_good g = rw arrived_is at g
 
   -- no row may arrive, and no choice is in force
   module _ (e : ready s ≡ false) (z : s.span ≡ 0) where
@@ -253,7 +168,7 @@ module _ (seed : ℕ) (x : Trial) (done : List Line) (h : Stand seed x done) whe
       abbrev lasting : ℕ
       lasting = span_of s x.queue (pick_used s x.queue) picked
 
-      abbrev chosen : Session
+      abbrev pub chosen : Session
       chosen = changed s s.clock s.jobs picked lasting
 
       starts : running chosen ≡ true
@@ -282,71 +197,14 @@ module _ (seed : ℕ) (x : Trial) (done : List Line) (h : Stand seed x done) whe
 
   -- `R`: no row may arrive, and a choice is in force
   module _ (e : ready s ≡ false) (some : 1 ≤ s.span) where
-    abbrev m : ℕ
+    abbrev pub m : ℕ
     m = min s.span (until_next_lem s)
 
-    abbrev later : Session
-    later = changed s (s.clock + m) (jobs_with s (aged_job s m) s.count) (cond (s.span == m) 0 s.chosen) (s.span - m)
-
-    span_few : s.span ≤ horizon
-    span_few = ⊎_elim (λ z. omega arith) (λ (c : Choice s). omega (arith, c.small)) (facts_of s sound_is).choice
-
-    until_some : 1 ≤ until_next_lem s
-    until_some =
-        ⊎_elim (λ z. omega arith) (λ (p : UntilRow s). omega (arith, p.2, not_ready s e p.0 p.1)) (until_one s)
-
     -- no further than the first row's next arrival, which is 51 ticks ahead at most
-    until_few : until_next_lem s ≤ 51
+    pub until_few : until_next_lem s ≤ 51
     until_few =
         let first : 0 < s.count = omega (arith, rows, count_few seed) in
         omega (arith, until_le s 0 first, (facts_of s sound_is).next 0 first, first_period)
 
-    next_same : (i : ℕ) → i < s.count → (job_at later i).next ≡ (job_at s i).next
-    next_same i u =
-        dite (ℕ_discrete i s.chosen) (λ q. (aged_worked s (good_places h.good) m i u q).next)
-        (λ ne. (aged_passed s (good_places h.good) m i u ne).rest.next)
-
-    sum_same : sum_to (next_at later) n ≡ sum_to (next_at s) n
-    unfolding next_at
-    sum_same = sum_eq (next_at later) (next_at s) n (λ i u. next_same i (omega (arith, rows)))
-
-    -- the span is used up, or a row may arrive now
-    ended : running later ≡ false
-    ended =
-        dite (ℕ_discrete m s.span) (λ q. simp (le-ltb 0 (s.span - m) (omega arith)) (and_zero (not (ready later))))
-        (λ ne. ⊎_elim (λ z. absurd (omega (arith, span_few)))
-        (λ (p : UntilRow s).
-        simp (row_ready later p.0 p.1 (omega (arith, p.2, next_same p.0 p.1, not_ready s e p.0 p.1))))
-        (until_one s))
-
-    no_word : x.given ≡ false
-    no_word = both x.given (λ t. absurd (omega (arith, (h.calm t).1))) (λ f. f)
-
     pub step_few : m ≤ 51
     step_few = omega (arith, until_few)
-
-    module _ (small : length done ≤ 1000) where
-      pub advanced_is : advance_of s m ≡ stepped_of s m
-      advanced_is = advance_is s sound_is m (omega (arith, until_some)) (omega arith) (omega (arith, until_few, h.far, h.all))
-
-      pub steps : Stand seed (record { session = later; queue = x.queue; number = x.number; given = x.given }) (CallLine (Advance m) ∷ done)
-      unfolding count_of gate next_at
-      steps = record {
-        good = ap_good (good_call (table_of seed) s h.good (advance m));
-        behind = λ i u.
-            let l : i < s.count = omega (arith, rows) in
-            omega (arith, next_same i l, until_le s i l, not_ready s e i l);
-        least = omega (arith, sum_same, h.least);
-        most = omega (arith, sum_same, h.most);
-        ticks = omega (arith, h.ticks, until_some);
-        far = omega (arith, h.far, until_few);
-        words = omega (arith, h.words);
-        runs = omega (arith, h.runs, gate_off (running later) 1 ended, gate_on (running s) 1 (simp (e, lt-ltb 0 s.span some)));
-        calm = λ t. absurd (true≢false (sym t ∙ no_word));
-        queue = omega (arith, h.queue);
-        all = omega (arith, h.all);
-        finishes = omega (arith, h.finishes);
-      }
-        where
-          ap_good : Good (table_of seed) (advance_of s m).session → Good (table_of seed) later
-          ap_good g = rw advanced_is at g

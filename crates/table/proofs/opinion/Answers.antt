@@ -1,5 +1,5 @@
 use borrow.Author.Rules.{rules}
-use Rattle.table.specs.Opinion.{opinion_cases}
+use Rattle.table.proofs.OpinionLaws.{opinion_cases}
 use Rattle.table.proofs.opinion.Goals as goal
 
 pub returns-then-ill_sized : goal.returns-then-ill_sized

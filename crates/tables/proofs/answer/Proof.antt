@@ -1,6 +1,6 @@
 -- `tables::answer` meets its contract. Assumes nothing.
 use borrow.Author.Rules.{rules}
-use Rattle.table.specs.Theorems.{shown_fit}
+use Rattle.table.proofs.TheoremsLaws.{shown_fit}
 use Rattle.tables.proofs.answer.Statement.{statement}
 use Rattle.tables.proofs.answer.Tie as tie
 

@@ -1,5 +1,5 @@
 use Rattle.std.proofs.Common.{rules}
-use Rattle.workload.specs.Entry.{load_cases}
+use Rattle.workload.proofs.EntryLaws.{load_cases}
 use Rattle.workload.proofs.load.Goals as goal
 
 pub returns-in-Of : goal.returns-in-Of

@@ -1,7 +1,8 @@
 use Rattle.std.proofs.Common.{◌-◌}
 use borrow.Author.Rules.{rules}
 use Rattle.session.specs.Jobs.{done_start}
-use Rattle.calls.specs.Code.{aged_next, stepped_is}
+use Rattle.calls.proofs.CodeLaws.{aged_next}
+use Rattle.calls.specs.Code.{stepped_is}
 use Rattle.calls.proofs.advance.stepped.Goals as goal
 
 pub loop-i-init : goal.loop-i-init

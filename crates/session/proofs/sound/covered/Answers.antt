@@ -1,6 +1,6 @@
 use Rattle.std.proofs.Common.{◌-◌}
 use borrow.Author.Rules.{rules}
-use Rattle.bounded.specs.All.{all_laws}
+use Rattle.bounded.proofs.AllLaws.{all_laws}
 use Rattle.session.specs.Soundness.{affords_row}
 use Rattle.session.proofs.sound.covered.Goals as goal
 

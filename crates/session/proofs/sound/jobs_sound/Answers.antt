@@ -1,7 +1,7 @@
 use Rattle.std.proofs.Common.{arith, sym, ◌-◌}
 use Rattle.std.proofs.Math.Seq.{length-take-le}
 use borrow.Author.Rules.{rules}
-use Rattle.bounded.specs.All.{all_laws}
+use Rattle.bounded.proofs.AllLaws.{all_laws}
 use Rattle.session.specs.Reading.{rows_of}
 use Rattle.session.specs.Soundness.{job_turn, checked_fit}
 use Rattle.session.proofs.sound.jobs_sound.Goals as goal

@@ -1,5 +1,5 @@
 use borrow.Author.Rules.{rules}
-use Rattle.table.specs.Kind.{kind_cases}
+use Rattle.table.proofs.KindLaws.{kind_cases}
 use Rattle.table.proofs.kind.kind_of.Goals as goal
 
 pub returns-then-ill_sized : goal.returns-then-ill_sized

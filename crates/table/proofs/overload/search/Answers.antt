@@ -1,5 +1,5 @@
 use borrow.Author.Rules.{rules}
-use Rattle.table.specs.Overload.{overload_laws}
+use Rattle.table.proofs.OverloadLaws.{overload_laws}
 use Rattle.table.proofs.overload.search.Goals as goal
 
 pub loop-t-init : goal.loop-t-init

@@ -1,6 +1,6 @@
 use Rattle.std.proofs.Common.{◌-◌}
 use borrow.Author.Rules.{rules}
-use Rattle.bounded.specs.Least.{first_laws}
+use Rattle.bounded.proofs.LeastLaws.{first_laws}
 use Rattle.table.specs.Rows.{first_broken_lem}
 use Rattle.table.proofs.rows.first_broken.Goals as goal
 

@@ -1,5 +1,5 @@
 use Rattle.std.proofs.Common.{◌-◌, rules}
-use Rattle.workload.specs.Line.{ready_laws}
+use Rattle.workload.proofs.LineLaws.{ready_laws}
 use Rattle.workload.proofs.line.ready_row.Goals as goal
 
 pub loop-i-init : goal.loop-i-init

@@ -2,7 +2,8 @@ use Rattle.std.proofs.Common.{arith, rules}
 use Rattle.transcript.specs.Play.{part_is}
 use Rattle.transcript.proofs.NotCall.{not_call}
 use Rattle.workload.specs.Loose.{count_few}
-use Rattle.workload.specs.Play.{aside_went, used_within, went_call, play_ready, play_laws}
+use Rattle.workload.specs.Play.{aside_went, used_within, went_call, play_ready}
+use Rattle.workload.proofs.PlayLaws.{play_laws}
 use Rattle.workload.proofs.play.put_calls.Goals as goal
 
 pub overflow_sub-left : goal.overflow_sub-left

@@ -1,8 +1,9 @@
--- The proof of Statement.antt. Assumes nothing.
+-- More laws of specs/Theorems.antt: they rest on what a must-fail edit makes false. Assumes nothing.
 use Rattle.game.specs.Game.{opening, line_to}
 use Rattle.game.specs.Statement.{ForcedExactly, LineWins}
-use Rattle.game.specs.Force.{wins_forces, line_wins as line}
-use Rattle.game.specs.Hold.{forces_exceeds}
+use Rattle.game.specs.Force.{wins_forces}
+use Rattle.game.proofs.ForceLaws.{line_wins as line}
+use Rattle.game.proofs.HoldLaws.{forces_exceeds}
 
 pub line_wins : LineWins
 line_wins = line

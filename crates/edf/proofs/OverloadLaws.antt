@@ -1,4 +1,4 @@
--- Each table whose demand exceeds some t is overloaded (docs/SPECIFICATION.md §4). Proofs only. Assumes nothing.
+-- More laws of specs/Overload.antt: they rest on what a must-fail edit makes false. Assumes nothing.
 use Prim.Native.Nat.{ℕ, zero, suc, ◌+◌, ◌*◌, ◌/◌, ◌%◌, ◌≤◌, ◌<◌}
 use Rattle.std.specs.Prelude.{◌≡◌, refl, false, List, [], ◌∷◌, ◌++◌, eqb, length}
 use Rattle.std.proofs.Math.Path.{ap}
@@ -11,11 +11,10 @@ use Rattle.std.proofs.Math.ListN.{get_or-append}
 use Rattle.std.proofs.lemmas.List.{get_or_at}
 use Rattle.bounded.specs.Sum.{sum_to, sum_le, sum_add, sum_lt, sum_const, sum_zero, sum_shift, sum_upto}
 use Rattle.bounded.specs.Tests.{gate, gate_off, gate_le}
-use Rattle.edf.specs.Jobs.{jobs_by_lem, jobs_last, jobs_few}
+use Rattle.edf.specs.Jobs.{jobs_by_lem}
+use Rattle.edf.proofs.JobsLaws.{jobs_last, jobs_few}
 use Rattle.edf.specs.Demand.{TaskSet, Lawful, row_demand_lem, demand}
 use Rattle.edf.specs.Arrivals.{Arrival, at, Allowed, Tick, to, none, Order, goes_to, served, InTime, Unservable}
-
--- ---- the ticks
 
 -- 1 where the tick x goes to row i, and else 0
 abbrev share : Order → ℕ → ℕ → ℕ

@@ -1,4 +1,4 @@
--- The proofs of Statement.antt, of the trial. Assumes nothing.
+-- More laws of specs/Theorems.antt: they rest on what a must-fail edit makes false. Assumes nothing.
 use Rattle.std.specs.Prelude.{◌≡◌, ℕ, zero, suc, ◌-◌, ◌/◌, ◌≤◌, min, false, ◌⊎◌, List, [], ◌∷◌, ◌++◌, length, take, ◌==◌, ◌≢◌, nat_lt, refl}
 use Rattle.std.proofs.Common.{ap, ◌∙◌, append-nil, inl, inr, ⊎_elim, arith, take_all, eq-eqb}
 use Rattle.std.proofs.Math.ListN.{length-append}
@@ -20,10 +20,9 @@ use Rattle.workload.specs.Table.{row_count, row_of, rows_to, rows_of_seed, table
 use Rattle.workload.specs.Trial.{Trial, trial_lines, ready_row_lem, ready, until_next_lem, line_by_lem, line_for, onward, lines_from, trial_start, call_lines, trial_of, text_of}
 use Rattle.workload.specs.Statement.{lines_read, ReadWhole, Readable, FiveHundred, HeavyTable, count_of, EnoughEach, words_of, WordsInTurn, NoneRefused}
 use Rattle.workload.specs.Loose.{count_few, row_bounds, rows_length, every_heavy}
-use Rattle.workload.specs.Accepted.{Accepted, queued, answered, AllAccepted, lines_length, all_played, counted}
+use Rattle.workload.specs.Accepted.{Accepted, queued, answered, AllAccepted, lines_length}
+use Rattle.workload.proofs.AcceptedLaws.{all_played, counted}
 use Rattle.workload.specs.Printed.{fine_more, fine_whole, fine_opinion, fine_calls}
-
--- ---- the lines of the table
 
 rows_narrow : (seed k : ℕ) → k ≤ row_count seed → AllNarrow (row_lines (rows_to seed k))
 unfolding rows_to

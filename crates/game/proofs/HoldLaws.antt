@@ -1,13 +1,15 @@
--- Where the demand is at most t for every t up to the end, the earliest deadline first holds. Assumes nothing.
+-- More laws of specs/Hold.antt: they rest on what a must-fail edit makes false. Assumes nothing.
 use Rattle.std.specs.Prelude.{ℕ, zero, suc, ◌+◌, ◌-◌, ◌≤◌, ◌<◌, ◌≡◌, refl, ◌⊎◌}
 use Rattle.std.proofs.Common.{sym, inl, inr, ⊎_elim, arith}
 use Rattle.std.proofs.Math.Logic.{dite}
 use Rattle.std.proofs.Math.Decide.{dec_le, dec_lt, ℕ_discrete}
 use Rattle.edf.specs.Demand.{TaskSet, Lawful, demand}
-use Rattle.edf.specs.State.{load, WellFormed, load_has, load_free}
+use Rattle.edf.specs.State.{load, WellFormed, load_has}
+use Rattle.edf.proofs.StateLaws.{load_free}
 use Rattle.edf.specs.Arrivals.{Tick, to, none}
 use Rattle.game.specs.Game.{Position, Waits, opening, released, MayPlay, played, Missed, Forces, Exceeds}
-use Rattle.game.specs.Tick.{state_of, waits_is, is_waits, released_load, released_formed, tick_clock, tick_job, run_less, tick_formed, opening_load, opening_formed}
+use Rattle.game.specs.Tick.{state_of, waits_is, is_waits, tick_clock, tick_job, run_less, tick_formed, opening_load, opening_formed}
+use Rattle.game.proofs.TickLaws.{released_load, released_formed}
 
 -- by each d up to the end there is time for the load
 abbrev SlackTo : TaskSet → ℕ → Position → Type 0

@@ -1,0 +1,11 @@
+pub mod AdvanceLaws
+pub mod ArriveLaws
+pub mod DemandLaws
+pub mod FinishLaws
+pub mod JobsLaws
+pub mod MixedLaws
+pub mod MixedMore
+pub mod OverloadLaws
+pub mod ResponseLaws
+pub mod SafeLaws
+pub mod StateLaws

@@ -1,0 +1,4 @@
+pub mod ForceLaws
+pub mod HoldLaws
+pub mod TheoremsLaws
+pub mod TickLaws

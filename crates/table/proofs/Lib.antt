@@ -1,0 +1,4 @@
+pub mod KindLaws
+pub mod OpinionLaws
+pub mod OverloadLaws
+pub mod TheoremsLaws

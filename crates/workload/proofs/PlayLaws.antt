@@ -1,0 +1,75 @@
+-- More laws of specs/Play.antt: they rest on what a must-fail edit makes false. Assumes nothing.
+use Rattle.std.specs.Prelude.{◌≡◌, ℕ, suc, ◌+◌, ◌-◌, ◌*◌, ◌<◌, ◌≤◌, Bool, true, false, List, [], ◌∷◌, ◌++◌, length, take, drop, replicate, ◌≢◌, slice_set, refl}
+use Rattle.std.proofs.Common.{sym, subst, ◌∙◌, drop-drop, lt-ltb}
+use Rattle.std.proofs.Math.Path.{ap}
+use native.Mathlib.Omega.{arith}
+use Rattle.std.proofs.Math.ListN.{length-set}
+use Rattle.std.proofs.lemmas.List.{length-replicate}
+use Rattle.decimal.specs.Buffer.{Wrote, Owing, owing_start, owing_next, owing_done}
+use Rattle.lines.specs.declared.read.Call.{Call}
+use Rattle.lines.specs.declared.read.Line.{Line}
+use Rattle.lines.specs.declared.read.Line.TheVariants.{Row, Word, Call as CallLine, Empty, Unreadable}
+use Rattle.lines.specs.Input.{input_line, input_text}
+use Rattle.session.specs.declared.Session.{Session}
+use Rattle.session.specs.declared.Outcome.{Outcome}
+use Rattle.session.specs.Sound.{sound}
+use Rattle.session.specs.Start.{session_of}
+use Rattle.transcript.specs.Step.{queue_limit, call_of, step_of}
+use Rattle.transcript.specs.Play.{queue_length, queue_push, call_used}
+use Rattle.workload.specs.declared.play.Progress.{Progress}
+use Rattle.workload.specs.Table.{row_count, table_of}
+use Rattle.workload.specs.Trial.{Trial, trial_lines, line_by_lem, line_for, given_after_call, onward, lines_from, trial_start, call_lines}
+use Rattle.workload.specs.Loose.{count_few}
+use Rattle.workload.specs.Stands.{Stand, rows}
+use Rattle.workload.proofs.AcceptedLaws.{next_line, first_stand}
+use Rattle.workload.specs.Play.{trial_in, Went, Held, stands, Playing, x, play_rows, play_sound, play_ready, play_room, play_done, held}
+
+pub play_start : (seed start rows left : ℕ) (s : Session) (first : List ℕ) → s ≡ session_of (table_of seed) → rows ≡ row_count seed
+    → left ≡ 500 - rows → start + 65 * (trial_lines - row_count seed) ≤ length first
+    → Playing seed start first s (record { from = 0; to = 0; number = seed; given = false }) (replicate 512 0) first start left
+unfolding call_lines trial_start
+play_start seed start rows left s first e r l h =
+    let k : left ≡ trial_lines - row_count seed = omega arith in
+    rw (e, k) (record {
+      done = [];
+      stand = held (first_stand seed);
+      lines = omega arith;
+      order = omega arith;
+      queued = omega arith;
+      places = length-replicate {A = ℕ} 512 0;
+      room = h;
+      most = omega arith;
+      owing = owing_start (input_text (call_lines seed)) first start _ refl;
+    })
+
+module _ (seed start : ℕ) (first : List ℕ) (s : Session) (p : Progress) (words out : List ℕ) (end left : ℕ)
+    (now : Playing seed start first s p words out end left) where
+  module _ (more : 0 < left) where
+    module _ (y : Line) (t : Session) (r : Progress) (words' out' : List ℕ) (end' : ℕ) (is : y ≡ line_by_lem s p.number p.given)
+        (w : Wrote 65 (input_line y) out out' end end') (g : Went y s t p r words words') where
+      onward_is : trial_in t r words' ≡ onward (x seed start first s p words out end left now) (line_for (x seed start first s p words out end left now))
+      onward_is = g.trial ∙ ap (onward (x seed start first s p words out end left now)) is
+
+      owed : input_text (lines_from left (x seed start first s p words out end left now)) ≡ input_line y ++ input_text (lines_from (left - 1) (trial_in t r words'))
+      unfolding input_text lines_from
+      owed =
+          let k : left ≡ suc (left - 1) = omega arith in
+          ap (λ (m : ℕ). input_text (lines_from m (x seed start first s p words out end left now))) k ∙ rw (is, onward_is)
+
+      pub play_next : Playing seed start first t r words' out' end' (left - 1)
+      play_next =
+          let fits : end + length (input_line y) ≤ length out = omega (arith, (play_room seed start first s p words out end left now more), w.short) in
+          let n = next_line seed (x seed start first s p words out end left now) now.done (stands now.stand) (omega (arith, now.lines)) in
+          record {
+            done = line_for (x seed start first s p words out end left now) ∷ now.done;
+            stand = subst (λ (z : Trial). Held seed z (line_for (x seed start first s p words out end left now) ∷ now.done)) (sym onward_is) (held n.stand);
+            lines = omega (arith, now.lines);
+            order = g.order;
+            queued = omega (arith, g.most, now.queued);
+            places = g.places ∙ now.places;
+            room = now.room;
+            most = omega (arith, w.place, w.short, now.most);
+            owing = owing_next _ _ _ _ _ _ now.owing 65 (input_line y) (input_text (lines_from (left - 1) (trial_in t r words'))) out' end' owed fits w;
+          }
+
+pub ruleset play_laws = (play_start, play_rows, play_sound, play_ready, play_room, play_next, play_done)
