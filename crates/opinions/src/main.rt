@@ -1,15 +1,17 @@
 // Gives the opinions on the tables on standard input (docs/SPECIFICATION.md §8.6).
 #![tactic(auto)]
 
+use std::alloc::{AllocError, Global};
 use std::io;
 
-// Two functions of their own, so that no proof about `main` has to spell out their zeros.
+// A function of its own, so that no proof about `main` has to spell out its zeros.
 fn input_buffer() -> [u8; desk::INPUT] {
     [0; desk::INPUT]
 }
 
-fn output_buffer() -> [u8; desk::LONGEST] {
-    [0; desk::LONGEST]
+// On the heap: on the stack it may take its room twice, where it is made and where it is moved to, and 8 MB are too few for that.
+fn output_buffer(alloc: Global) -> Result<Vec<u8>, AllocError> {
+    vec![in alloc; 0; desk::LONGEST]
 }
 
 fn answer(rt: &impl Print, text: &[u8], out: &mut [u8]) -> io::Result<()> {
@@ -18,7 +20,7 @@ fn answer(rt: &impl Print, text: &[u8], out: &mut [u8]) -> io::Result<()> {
 }
 
 // What cannot be written is lost.
-fn main(rt: HostRuntime) {
+fn main(rt: HostRuntime) -> Result<(), AllocError> {
     let mut input = input_buffer();
     let n = stream::read_full(&mut rt.stdin(), &mut input);
     let text = &input[..n];
@@ -26,8 +28,9 @@ fn main(rt: HostRuntime) {
     if desk::room_for(n) <= 65536 {
         let mut out = stream::large_buffer();
         let _ = answer(&rt, text, &mut out);
-        return;
+        return Ok(());
     }
-    let mut out = output_buffer();
+    let mut out = output_buffer(rt.alloc())?;
     let _ = answer(&rt, text, &mut out);
+    Ok(())
 }

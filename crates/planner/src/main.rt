@@ -9,7 +9,7 @@ fn input_buffer() -> [u8; response::INPUT] {
     [0; response::INPUT]
 }
 
-// On the heap, since a stack of 8 MB has no room for it twice, as it is made and as it is moved.
+// On the heap: on the stack it may take its room twice, where it is made and where it is moved to, and 8 MB are too few for that.
 fn output_buffer(alloc: Global) -> Result<Vec<u8>, AllocError> {
     vec![in alloc; 0; response::LONGEST]
 }
