@@ -6,6 +6,9 @@ ghost use Rattle.std.specs.Io.KnownBytes.{Consumes};
 
 use std::io::Read;
 
+#[cfg(test)]
+mod tests;
+
 // 65,536 zeros. A function of its own, so that no proof about a caller has to spell them out.
 pub fn large_buffer() -> [u8; 65536]
     ensures { 65536 ≡ length result }
