@@ -1,6 +1,8 @@
 // Gives what a planner wants to know of the table and the calls on standard input (docs/SPECIFICATION.md §14.4).
 #![tactic(auto)]
 
+ghost use Rattle.std.specs.Prelude.{◌≡◌, IfOk, vec_len};
+
 use std::alloc::{AllocError, Global};
 use std::io;
 
@@ -10,7 +12,9 @@ fn input_buffer() -> [u8; response::INPUT] {
 }
 
 // On the heap: on the stack it may take its room twice, where it is made and where it is moved to, and 8 MB are too few for that.
-fn output_buffer(alloc: Global) -> Result<Vec<u8>, AllocError> {
+fn output_buffer(alloc: Global) -> Result<Vec<u8>, AllocError>
+    ensures { IfOk result (λ v. vec_len v ≡ 4225308) }
+{
     vec![in alloc; 0; response::LONGEST]
 }
 
