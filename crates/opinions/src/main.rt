@@ -1,21 +1,15 @@
 // Gives the opinions on the tables on standard input (docs/SPECIFICATION.md §8.6).
 #![tactic(auto)]
 
-ghost use Rattle.std.specs.Prelude.{◌≡◌, IfOk, vec_len};
-
-use std::alloc::{AllocError, Global};
 use std::io;
 
-// A function of its own, so that no proof about `main` has to spell out its zeros.
+// Two functions of their own, so that no proof about `main` has to spell out their zeros.
 fn input_buffer() -> [u8; desk::INPUT] {
     [0; desk::INPUT]
 }
 
-// On the heap: on the stack it may take its room twice, where it is made and where it is moved to, and 8 MB are too few for that.
-fn output_buffer(alloc: Global) -> Result<Vec<u8>, AllocError>
-    ensures { IfOk result (λ v. vec_len v ≡ 2885148) }
-{
-    vec![in alloc; 0; desk::LONGEST]
+fn output_buffer() -> [u8; desk::LONGEST] {
+    [0; desk::LONGEST]
 }
 
 fn answer(rt: &impl Print, text: &[u8], out: &mut [u8]) -> io::Result<()> {
@@ -24,7 +18,7 @@ fn answer(rt: &impl Print, text: &[u8], out: &mut [u8]) -> io::Result<()> {
 }
 
 // What cannot be written is lost.
-fn main(rt: HostRuntime) -> Result<(), AllocError> {
+fn main(rt: HostRuntime) {
     let mut input = input_buffer();
     let n = stream::read_full(&mut rt.stdin(), &mut input);
     let text = &input[..n];
@@ -32,9 +26,8 @@ fn main(rt: HostRuntime) -> Result<(), AllocError> {
     if desk::room_for(n) <= 65536 {
         let mut out = stream::large_buffer();
         let _ = answer(&rt, text, &mut out);
-        return Ok(());
+        return;
     }
-    let mut out = output_buffer(rt.alloc())?;
+    let mut out = output_buffer();
     let _ = answer(&rt, text, &mut out);
-    Ok(())
 }
