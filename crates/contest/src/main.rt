@@ -1,12 +1,11 @@
 // Plays arrivals against the scheduler on the table and questions on standard input (docs/SPECIFICATION.md §13.4).
 #![tactic(auto)]
 
-use libc::{STDIN_FILENO, STDOUT_FILENO};
-
-fn main() {
+fn main(rt: HostRuntime) {
     let mut input = [0u8; lesson::INPUT];
-    let n = io::read_full(STDIN_FILENO, &mut input);
-    let mut out = io::large_buffer();
+    let n = stream::read_full(&mut rt.stdin(), &mut input);
+    let mut out = stream::large_buffer();
     let r = lesson::contest(&input[..n], &mut out);
-    io::write_all(STDOUT_FILENO, &out[..r]);
+    // What cannot be written is lost.
+    let _ = rt.write_all(&out[..r]);
 }

@@ -4,7 +4,7 @@
 ghost use Rattle.std.specs.Prelude.{◌≡◌, ◌≤◌, length};
 ghost use Rattle.transcript.specs.Transcript.{input_limit};
 
-use libc::{STDIN_FILENO, STDOUT_FILENO};
+use std::io;
 
 // A function of its own, so that no proof about `main` has to spell out its zeros. Each word takes four bytes of the input.
 fn no_words() -> [u32; 16384] {
@@ -12,24 +12,26 @@ fn no_words() -> [u32; 16384] {
 }
 
 // The output is longer than the buffer, so it is written a part at a time. Where a part cannot be written, no more is.
-fn answer(text: &[u8], words: &mut [u32], out: &mut [u8])
+fn answer(rt: &impl Print, text: &[u8], words: &mut [u32], out: &mut [u8]) -> io::Result<()>
     requires { (length text.now ≤ input_limit) × (length words.old ≡ 16384) × (2037 ≤ length out.old) }
 {
     let mut t = narration::begin(text, out);
     let mut end = t.play.end;
-    let mut written = io::write_all(STDOUT_FILENO, &out[..end]);
-    while written && !t.play.over {
+    rt.write_all(&out[..end])?;
+    while !t.play.over {
         t = narration::more(text, t, words, out);
         end = t.play.end;
-        written = io::write_all(STDOUT_FILENO, &out[..end]);
+        rt.write_all(&out[..end])?;
     }
+    Ok(())
 }
 
-fn main() {
-    let mut input = io::large_buffer();
-    let n = io::read_full(STDIN_FILENO, &mut input);
+// What cannot be written is lost.
+fn main(rt: HostRuntime) {
+    let mut input = stream::large_buffer();
+    let n = stream::read_full(&mut rt.stdin(), &mut input);
     let text = &input[..n];
     let mut words = no_words();
-    let mut out = io::large_buffer();
-    answer(text, &mut words, &mut out);
+    let mut out = stream::large_buffer();
+    let _ = answer(&rt, text, &mut words, &mut out);
 }

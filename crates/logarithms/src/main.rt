@@ -4,19 +4,25 @@
 
 ghost use Rattle.std.specs.Prelude.{◌≤◌};
 
-use libc::STDOUT_FILENO;
+use std::io;
 
-fn put(n: u64)
+fn put(rt: &impl Print, n: u64) -> io::Result<()>
     requires { (1 ≤ n) × (n ≤ 255) }
 {
-    io::print_decimal(STDOUT_FILENO, meter::log::eighths(n));
-    io::write_all(STDOUT_FILENO, b"\n");
+    let g = meter::log::eighths(n);
+    println!(rt; "{g}")
 }
 
-fn main() {
+fn put_all(rt: &impl Print) -> io::Result<()> {
     let mut n: u64 = 1;
     while n < 256 {
-        put(n);
+        put(rt, n)?;
         n = n + 1;
     }
+    Ok(())
+}
+
+fn main(rt: HostRuntime) {
+    // What cannot be written is lost.
+    let _ = put_all(&rt);
 }

@@ -4,58 +4,58 @@
 
 ghost use Rattle.std.specs.Prelude.{◌≤◌};
 
-use libc::{STDIN_FILENO, STDOUT_FILENO};
+use std::io;
 use wording::{Cause, Held, Optional, Parts};
 
-fn put(text: &[u8]) {
-    io::write_all(STDOUT_FILENO, text);
+fn put(rt: &impl Print, text: &[u8]) -> io::Result<()> {
+    rt.write_all(text)
 }
 
 // A number after a tab.
-fn put_field(n: u64) {
-    put(b"\t");
-    io::print_decimal(STDOUT_FILENO, n);
+fn put_field(rt: &impl Print, n: u64) -> io::Result<()> {
+    print!(rt; "\t{n}")
 }
 
-fn put_job(j: Held) {
-    put(b"J");
-    put_field(j.row);
-    put_field(j.due);
-    put_field(j.budget);
-    put_field(bounded::one(j.candidate));
-    put(b"\n");
+fn put_job(rt: &impl Print, j: Held) -> io::Result<()> {
+    put(rt, b"J")?;
+    put_field(rt, j.row)?;
+    put_field(rt, j.due)?;
+    put_field(rt, j.budget)?;
+    put_field(rt, bounded::one(j.candidate))?;
+    put(rt, b"\n")
 }
 
-fn put_jobs(p: Parts)
+fn put_jobs(rt: &impl Print, p: Parts) -> io::Result<()>
     requires { p.count ≤ 16 }
 {
     let mut i: usize = 0;
     while i < p.count {
-        put_job(p.jobs[i]);
+        put_job(rt, p.jobs[i])?;
         i = i + 1;
     }
+    Ok(())
 }
 
-fn put_brittle(brittle: Optional) {
+fn put_brittle(rt: &impl Print, brittle: Optional) -> io::Result<()> {
     match brittle {
-        Optional::None => {}
+        Optional::None => Ok(()),
         Optional::Of(due) => {
-            put(b"B");
-            put_field(due);
-            put(b"\n");
+            put(rt, b"B")?;
+            put_field(rt, due)?;
+            put(rt, b"\n")
         }
     }
 }
 
-fn put_decided(decided: Optional) {
+fn put_decided(rt: &impl Print, decided: Optional) -> io::Result<()> {
     match decided {
         Optional::None => {
-            put_field(0);
-            put_field(0);
+            put_field(rt, 0)?;
+            put_field(rt, 0)
         }
         Optional::Of(w) => {
-            put_field(1);
-            put_field(w);
+            put_field(rt, 1)?;
+            put_field(rt, w)
         }
     }
 }
@@ -69,31 +69,32 @@ fn number_of(cause: Cause) -> u64 {
     }
 }
 
-fn put_parts(p: Parts)
+fn put_parts(rt: &impl Print, p: Parts) -> io::Result<()>
     requires { p.count ≤ 16 }
 {
     let brittle = p.brittle;
     let decided = p.decided;
     let cause = p.cause;
-    put_jobs(p);
-    put_brittle(brittle);
-    put(b"C");
-    put_field(p.chosen);
-    put_decided(decided);
-    put(b"\nS");
-    put_field(p.span);
-    put_field(number_of(cause));
-    put(b"\n");
+    put_jobs(rt, p)?;
+    put_brittle(rt, brittle)?;
+    put(rt, b"C")?;
+    put_field(rt, p.chosen)?;
+    put_decided(rt, decided)?;
+    put(rt, b"\nS")?;
+    put_field(rt, p.span)?;
+    put_field(rt, number_of(cause))?;
+    put(rt, b"\n")
 }
 
-fn main() {
+// What cannot be written is lost.
+fn main(rt: HostRuntime) {
     let mut input = [0u8; 4096];
-    let n = io::read_full(STDIN_FILENO, &mut input);
+    let n = stream::read_full(&mut rt.stdin(), &mut input);
     let r = reader::read(&input[..n]);
     if r.found {
         let p = r.parts;
-        put_parts(p);
+        let _ = put_parts(&rt, p);
         return;
     }
-    put(b"?\n");
+    let _ = put(&rt, b"?\n");
 }

@@ -1,7 +1,7 @@
 // Gives what a planner wants to know of the table and the calls on standard input (docs/SPECIFICATION.md §14.4).
 #![tactic(auto)]
 
-use libc::{STDIN_FILENO, STDOUT_FILENO};
+use std::io;
 
 // Two functions of their own, so that no proof about `main` has to spell out their zeros.
 fn input_buffer() -> [u8; response::INPUT] {
@@ -12,21 +12,22 @@ fn output_buffer() -> [u8; response::LONGEST] {
     [0; response::LONGEST]
 }
 
-fn answer(text: &[u8], out: &mut [u8]) {
+fn answer(rt: &impl Print, text: &[u8], out: &mut [u8]) -> io::Result<()> {
     let r = response::plan(text, out);
-    io::write_all(STDOUT_FILENO, &out[..r]);
+    rt.write_all(&out[..r])
 }
 
-fn main() {
+// What cannot be written is lost.
+fn main(rt: HostRuntime) {
     let mut input = input_buffer();
-    let n = io::read_full(STDIN_FILENO, &mut input);
+    let n = stream::read_full(&mut rt.stdin(), &mut input);
     let text = &input[..n];
     // To clear the longest buffer takes longer than to answer a short input.
     if response::room_for(n) <= 65536 {
-        let mut out = io::large_buffer();
-        answer(text, &mut out);
+        let mut out = stream::large_buffer();
+        let _ = answer(&rt, text, &mut out);
         return;
     }
     let mut out = output_buffer();
-    answer(text, &mut out);
+    let _ = answer(&rt, text, &mut out);
 }

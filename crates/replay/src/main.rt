@@ -6,18 +6,18 @@ ghost use Rattle.std.specs.Prelude.{◌<◌, length};
 ghost use Rattle.replay.specs.Case.{Past};
 
 use decimal::read::{Number, read_number};
-use libc::{STDIN_FILENO, STDOUT_FILENO};
 use lines::read::place;
+use std::io;
 
 // The bytes of one case.
-fn answer(bytes: &[u8], out: &mut [u8]) {
+fn answer(rt: &impl Print, bytes: &[u8], out: &mut [u8]) -> io::Result<()> {
     let r = transcript::transcribe(bytes, out);
-    io::write_all(STDOUT_FILENO, &out[..r]);
-    io::write_all(STDOUT_FILENO, b"--\n");
+    rt.write_all(&out[..r])?;
+    println!(rt; "--")
 }
 
-// The case at a place, and the place past it; the end where no length stands there.
-fn case(text: &[u8], at: usize, out: &mut [u8]) -> usize
+// The case at a place, and the place past it; the end where no length stands there. What cannot be written is lost.
+fn case(rt: &impl Print, text: &[u8], at: usize, out: &mut [u8]) -> usize
     requires { at < length text.now }
     ensures { Past text.now at result }
 {
@@ -32,7 +32,7 @@ fn case(text: &[u8], at: usize, out: &mut [u8]) -> usize
     if after.len() <= n {
         return text.len();
     }
-    answer(&after[1..n + 1], out);
+    let _ = answer(rt, &after[1..n + 1], out);
     at + e + n + 1
 }
 
@@ -41,13 +41,13 @@ fn buffer() -> [u8; transcript::LONGEST] {
     [0; transcript::LONGEST]
 }
 
-fn main() {
-    let mut input = io::large_buffer();
-    let n = io::read_full(STDIN_FILENO, &mut input);
+fn main(rt: HostRuntime) {
+    let mut input = stream::large_buffer();
+    let n = stream::read_full(&mut rt.stdin(), &mut input);
     let text = &input[..n];
     let mut out = buffer();
     let mut at: usize = 0;
     while at < text.len() {
-        at = case(text, at, &mut out);
+        at = case(&rt, text, at, &mut out);
     }
 }

@@ -5,66 +5,66 @@
 
 ghost use Rattle.table.specs.Rows.{tasks_of, Fit};
 
-use libc::STDOUT_FILENO;
+use std::io;
 
-fn put(n: u64) {
-    io::print_decimal(STDOUT_FILENO, n);
-    io::write_all(STDOUT_FILENO, b"\t");
+fn put(rt: &impl Print, n: u64) -> io::Result<()> {
+    print!(rt; "{n}\t")
 }
 
-fn put_signed(v: i64) {
+fn put_signed(rt: &impl Print, v: i64) -> io::Result<()> {
     if table::budgets::below_zero(v) {
-        io::write_all(STDOUT_FILENO, b"-");
+        print!(rt; "-")?;
     }
-    put(table::budgets::magnitude(v));
+    put(rt, table::budgets::magnitude(v))
 }
 
-fn put_budgets(values: [i64; 16], rows: u64) {
+fn put_budgets(rt: &impl Print, values: [i64; 16], rows: u64) -> io::Result<()> {
     let mut i: usize = 0;
     while i < 16 {
         if (i as u64) < rows {
-            put_signed(values[i]);
+            put_signed(rt, values[i])?;
         }
         i = i + 1;
     }
+    Ok(())
 }
 
 // Rows that keep their rule.
-fn put_sums(words: &[u32])
+fn put_sums(rt: &impl Print, words: &[u32]) -> io::Result<()>
     requires { Fit (tasks_of words.now) }
 {
     let inverses = table::inverse::inverses_of(words);
     let busy = table::busy::busy_length(words, &inverses);
     let end = table::compared(busy.length);
     let found = table::overload::search(words, &inverses, 0, end);
-    io::write_all(STDOUT_FILENO, b"sums\t");
-    put(busy.sums);
+    print!(rt; "sums\t")?;
+    put(rt, busy.sums)?;
     if found.at == 0 {
-        put(found.sums);
+        put(rt, found.sums)?;
     } else {
         let first = table::first::first(words, &inverses, found);
-        put(first.sums);
+        put(rt, first.sums)?;
     }
-    put(end);
+    put(rt, end)
 }
 
-fn answer(words: &[u32]) {
+fn answer(rt: &impl Print, words: &[u32]) -> io::Result<()> {
     let a = table::opinion(words);
     let verdict = a.verdict;
     let budgets = a.budgets;
     let n = table::shown(verdict);
-    put(n.number);
-    put(n.first);
-    put(n.second);
+    put(rt, n.number)?;
+    put(rt, n.first)?;
+    put(rt, n.second)?;
     if n.number == 0 {
-        put_budgets(budgets, n.second);
+        put_budgets(rt, budgets, n.second)?;
     }
     if n.number != 1 {
         if n.number != 2 {
-            put_sums(words);
+            put_sums(rt, words)?;
         }
     }
-    io::write_all(STDOUT_FILENO, b"\n");
+    println!(rt)
 }
 
 // 16 rows, loose.
@@ -102,61 +102,69 @@ const LATE_OVERLOAD: [u32; 48] = [
 ];
 
 // The list of §7.
-fn listed() {
-    answer(&[1, 2, 2, 500000, 1000000, 1000000]);
-    answer(&[1, 2, 2, 500000, 999999, 999999]);
+fn listed(rt: &impl Print) -> io::Result<()> {
+    answer(rt, &[1, 2, 2, 500000, 1000000, 1000000])?;
+    answer(rt, &[1, 2, 2, 500000, 999999, 999999])?;
     let sixteen = SIXTEEN;
-    answer(&sixteen);
-    answer(&[1u32; 51]);
+    answer(rt, &sixteen)?;
+    answer(rt, &[1u32; 51])
 }
 
 // What a slice can be short of, the lower number first.
-fn refused() {
-    answer(&[1u32; 1]);
-    answer(&[1u32; 47]);
-    answer(&[0, 5, 5]);
-    answer(&[3, 5, 2, 9, 9, 9, 9, 9, 9]);
-    answer(&[9, 9, 9, 9, 9, 9, 3, 2, 3]);
-    answer(&[1, 1000001, 1]);
-    answer(&[4294967295, 4294967295, 4294967295]);
-    answer(&[9, 9, 9, 9, 9, 9]);
+fn refused(rt: &impl Print) -> io::Result<()> {
+    answer(rt, &[1u32; 1])?;
+    answer(rt, &[1u32; 47])?;
+    answer(rt, &[0, 5, 5])?;
+    answer(rt, &[3, 5, 2, 9, 9, 9, 9, 9, 9])?;
+    answer(rt, &[9, 9, 9, 9, 9, 9, 3, 2, 3])?;
+    answer(rt, &[1, 1000001, 1])?;
+    answer(rt, &[4294967295, 4294967295, 4294967295])?;
+    answer(rt, &[9, 9, 9, 9, 9, 9])
 }
 
 // Tables that are hard to decide: short periods that use up nearly all of the time.
-fn hard() {
-    answer(&[1, 5, 5, 3, 8, 8, 2, 9, 9, 4, 20, 20]);
-    answer(&[1, 2, 2, 1, 3, 3, 1, 7, 7, 1, 42, 42]);
+fn hard(rt: &impl Print) -> io::Result<()> {
+    answer(rt, &[1, 5, 5, 3, 8, 8, 2, 9, 9, 4, 20, 20])?;
+    answer(rt, &[1, 2, 2, 1, 3, 3, 1, 7, 7, 1, 42, 42])?;
     let none = NO_BUSY_LENGTH;
-    answer(&none);
+    answer(rt, &none)?;
     let long = LONG_BUSY_LENGTH;
-    answer(&long);
-    answer(&[999, 1000, 1000, 500, 1000000, 500000, 300, 1000000, 1000000]);
+    answer(rt, &long)?;
+    answer(
+        rt,
+        &[999, 1000, 1000, 500, 1000000, 500000, 300, 1000000, 1000000],
+    )?;
     let longest = LONGEST_BUSY_LENGTH;
-    answer(&longest);
+    answer(rt, &longest)
 }
 
 // Tables that take many short steps; the second is overloaded, since two deadlines differ by a tick.
-fn short_steps() {
+fn short_steps(rt: &impl Print) -> io::Result<()> {
     let mut short = SHORT_STEPS;
-    answer(&short);
+    answer(rt, &short)?;
     short[44] = 10;
     short[47] = 10;
-    answer(&short);
+    answer(rt, &short)
 }
 
 // Tables whose first overload is one of many, or lies at the end of a long stretch without one; and one without, as long.
-fn first_overloads() {
-    answer(&[1, 2, 2, 2, 3, 3]);
-    answer(&[1, 2, 2, 1, 3, 3, 1, 6, 6, 1, 1000000, 999990]);
-    answer(&[1, 2, 2, 1, 3, 3, 1, 6, 6, 1, 1000000, 1000000]);
+fn first_overloads(rt: &impl Print) -> io::Result<()> {
+    answer(rt, &[1, 2, 2, 2, 3, 3])?;
+    answer(rt, &[1, 2, 2, 1, 3, 3, 1, 6, 6, 1, 1000000, 999990])?;
+    answer(rt, &[1, 2, 2, 1, 3, 3, 1, 6, 6, 1, 1000000, 1000000])?;
     let late = LATE_OVERLOAD;
-    answer(&late);
+    answer(rt, &late)
 }
 
-fn main() {
-    listed();
-    refused();
-    hard();
-    short_steps();
-    first_overloads();
+fn answer_all(rt: &impl Print) -> io::Result<()> {
+    listed(rt)?;
+    refused(rt)?;
+    hard(rt)?;
+    short_steps(rt)?;
+    first_overloads(rt)
+}
+
+fn main(rt: HostRuntime) {
+    // What cannot be written is lost.
+    let _ = answer_all(&rt);
 }

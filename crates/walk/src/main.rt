@@ -6,31 +6,30 @@
 
 ghost use Rattle.std.specs.Prelude.{◌<◌};
 
-use libc::STDOUT_FILENO;
 use session::{Outcome, Session};
+use std::io;
 use table::rows::wide;
 
-fn put(n: u64) {
-    io::print_decimal(STDOUT_FILENO, n);
-    io::write_all(STDOUT_FILENO, b"\t");
+fn put(rt: &impl Print, n: u64) -> io::Result<()> {
+    print!(rt; "{n}\t")
 }
 
-fn end() {
-    io::write_all(STDOUT_FILENO, b"\n");
+fn end(rt: &impl Print) -> io::Result<()> {
+    println!(rt)
 }
 
-fn told(o: Outcome, letter: &[u8]) -> Session {
+fn told(rt: &impl Print, o: Outcome, letter: &[u8]) -> io::Result<Session> {
     let s = o.session;
     let answer = o.answer;
     let n = session::show(answer);
-    put(s.clock);
-    io::write_all(STDOUT_FILENO, letter);
-    io::write_all(STDOUT_FILENO, b"\t");
-    put(n.number);
-    put(n.first);
-    put(n.second);
-    end();
-    s
+    put(rt, s.clock)?;
+    rt.write_all(letter)?;
+    rt.write_all(b"\t")?;
+    put(rt, n.number)?;
+    put(rt, n.first)?;
+    put(rt, n.second)?;
+    end(rt)?;
+    Ok(s)
 }
 
 fn fresh(words: &[u32]) -> Session {
@@ -38,18 +37,19 @@ fn fresh(words: &[u32]) -> Session {
     r.session
 }
 
-fn listing() {
+fn listing(rt: &impl Print) -> io::Result<()> {
     let s = fresh(&[2, 10, 10, 3, 20, 15]);
-    let s = told(calls::arrive::arrive(s, 0), b"A");
-    let s = told(calls::arrive::arrive(s, 1), b"A");
-    let s = told(choice::choose(s, &[4, 9]), b"G");
-    let s = told(calls::advance::advance(s, 1), b"R");
-    let s = told(choice::choose(s, &[2, 5]), b"G");
-    let s = told(calls::advance::advance(s, 2), b"R");
-    let s = told(choice::choose(s, &[3]), b"G");
-    let s = told(calls::advance::advance(s, 1), b"R");
-    let s = told(calls::finish::finish(s), b"F");
-    told(calls::arrive::arrive(s, 0), b"A");
+    let s = told(rt, calls::arrive::arrive(s, 0), b"A")?;
+    let s = told(rt, calls::arrive::arrive(s, 1), b"A")?;
+    let s = told(rt, choice::choose(s, &[4, 9]), b"G")?;
+    let s = told(rt, calls::advance::advance(s, 1), b"R")?;
+    let s = told(rt, choice::choose(s, &[2, 5]), b"G")?;
+    let s = told(rt, calls::advance::advance(s, 2), b"R")?;
+    let s = told(rt, choice::choose(s, &[3]), b"G")?;
+    let s = told(rt, calls::advance::advance(s, 1), b"R")?;
+    let s = told(rt, calls::finish::finish(s), b"F")?;
+    told(rt, calls::arrive::arrive(s, 0), b"A")?;
+    Ok(())
 }
 
 // A walk so far.
@@ -117,7 +117,7 @@ fn turn(w: Walk) -> Walk {
     v
 }
 
-fn play(words: &[u32], turns: u64) {
+fn play(rt: &impl Print, words: &[u32], turns: u64) -> io::Result<()> {
     let s = fresh(words);
     let mut w = Walk {
         session: s,
@@ -131,13 +131,13 @@ fn play(words: &[u32], turns: u64) {
         w = turn(w);
         i = i + 1;
     }
-    put(w.session.kind);
-    put(turns);
-    put(w.refused);
-    put(w.unsound);
-    put(w.session.clock);
-    put(w.sum);
-    end();
+    put(rt, w.session.kind)?;
+    put(rt, turns)?;
+    put(rt, w.refused)?;
+    put(rt, w.unsound)?;
+    put(rt, w.session.clock)?;
+    put(rt, w.sum)?;
+    end(rt)
 }
 
 // 16 rows, loose.
@@ -153,13 +153,18 @@ const FULL: [u32; 48] = [
     40, 2, 40, 40, 2, 40, 40, 2, 40, 40, 2, 40, 40, 2, 40, 40, 2, 40, 40, 2, 40, 40,
 ];
 
-fn main() {
-    listing();
-    play(&[1, 1, 1], 20000);
-    play(&[1, 10, 10, 2, 20, 20, 2, 5, 5], 20000);
-    play(&[1, 5, 5, 3, 8, 8, 2, 9, 9, 4, 20, 20], 20000);
+fn play_all(rt: &impl Print) -> io::Result<()> {
+    listing(rt)?;
+    play(rt, &[1, 1, 1], 20000)?;
+    play(rt, &[1, 10, 10, 2, 20, 20, 2, 5, 5], 20000)?;
+    play(rt, &[1, 5, 5, 3, 8, 8, 2, 9, 9, 4, 20, 20], 20000)?;
     let sixteen = SIXTEEN;
-    play(&sixteen, 20000);
+    play(rt, &sixteen, 20000)?;
     let full = FULL;
-    play(&full, 20000);
+    play(rt, &full, 20000)
+}
+
+fn main(rt: HostRuntime) {
+    // What cannot be written is lost.
+    let _ = play_all(&rt);
 }
