@@ -26,7 +26,7 @@ use Rattle.workload.specs.Statement.{count_of}
 use Rattle.workload.specs.Loose.{count_few, table_rows, every_heavy}
 use Rattle.workload.specs.Stands.{next_at, running, ready_row, choose_is, Stand, rows, period, gives, chooses, step_few}
 use Rattle.workload.proofs.StandsLaws.{row_ready, arrived_is, arrives, advanced_is, steps}
-use Rattle.workload.specs.Accepted.{Follows, past, Played, lines_length, n, clock, enough, queued, answered}
+use Rattle.workload.specs.Accepted.{Follows, past, Played, lines_length, enough, queued, answered}
 
 module _ (x : Trial) where
   line_arrive : ready x.session ≡ true → line_for x ≡ CallLine (Arrive (ready_row_lem x.session))

@@ -32,7 +32,7 @@ use Rattle.workload.specs.Table.{row_count, table_of}
 use Rattle.workload.specs.Trial.{Trial, ready_row_lem, ready, until_next_lem}
 use Rattle.workload.specs.Statement.{count_of}
 use Rattle.workload.specs.Loose.{count_few, table_rows, table_bounds}
-use Rattle.workload.specs.Stands.{least_of, next_at, running, ready_row, until_le, arrive_is, advance_is, Stand, n, s, rows, sound_is, period, k, chosen, m, until_few}
+use Rattle.workload.specs.Stands.{least_of, next_at, running, ready_row, until_le, arrive_is, advance_is, Stand, n, s, rows, sound_is, period, k, m, until_few}
 
 module _ (f : ℕ → ℕ) (b : ℕ) where
   least_one : (n : ℕ) → ((least_of f b) n ≡ b) ⊎ ((i : ℕ) × (i < n) × ((least_of f b) n ≡ f i))
@@ -66,7 +66,7 @@ module _ (s : Session) where
 
 module _ (seed : ℕ) (x : Trial) (done : List Line) (h : Stand seed x done) where
   -- `A`: the row's earliest next arrival is now
-  module _ (e : ready s ≡ true) where
+  module _ (e : ready (s seed x done h) ≡ true) where
     abbrev after : Session
     after = changed (s seed x done h) (s seed x done h).clock (slice_set (s seed x done h).jobs (k seed x done h e) (arrived_job (s seed x done h) (k seed x done h e))) 0 0
 
@@ -124,7 +124,7 @@ module _ (seed : ℕ) (x : Trial) (done : List Line) (h : Stand seed x done) whe
         ap_good g = rw arrived_is at g
 
   -- `R`: no row may arrive, and a choice is in force
-  module _ (e : ready s ≡ false) (some : 1 ≤ s.span) where
+  module _ (e : ready (s seed x done h) ≡ false) (some : 1 ≤ (s seed x done h).span) where
     abbrev later : Session
     later = changed (s seed x done h) ((s seed x done h).clock + (m seed x done h e some)) (jobs_with (s seed x done h) (aged_job (s seed x done h) (m seed x done h e some)) (s seed x done h).count) (cond ((s seed x done h).span == (m seed x done h e some)) 0 (s seed x done h).chosen) ((s seed x done h).span - (m seed x done h e some))
 

@@ -63,10 +63,10 @@ lines_length (suc k) x = omega (arith, lines_length k (onward x (line_for x)))
 -- ---- so many lines have enough of each kind
 
 module _ (seed : ℕ) (x : Trial) (done : List Line) (h : Stand seed x done) where
-  abbrev pub n : ℕ
+  abbrev n : ℕ
   n = row_count seed
 
-  abbrev pub clock : ℕ
+  abbrev clock : ℕ
   clock = x.session.clock
 
   divided : {a b : ℕ} → n * a ≤ n * b → a ≤ b

@@ -168,7 +168,7 @@ module _ (seed : ℕ) (x : Trial) (done : List Line) (h : Stand seed x done) whe
       abbrev lasting : ℕ
       lasting = span_of s x.queue (pick_used s x.queue) picked
 
-      abbrev pub chosen : Session
+      abbrev chosen : Session
       chosen = changed s s.clock s.jobs picked lasting
 
       starts : running chosen ≡ true
