@@ -20,7 +20,7 @@ use Rattle.session.specs.Ranked.{waiting_at_lem}
 use Rattle.session.specs.Choose.{draw, pick_of, pick_used, room, unopposed, length_drawn, span_of}
 use Rattle.guarantee.specs.KeepsTable.{opinion_length, most_le}
 use Rattle.guarantee.specs.KeepsPick.{pick_may}
-use Rattle.guarantee.specs.Room.{most, room_lesser}
+use Rattle.guarantee.specs.Room.{room_lesser}
 use Rattle.wording.specs.declared.Optional.TheVariants.{None, Of}
 use Rattle.wording.specs.Explanation.{FitsJob}
 use Rattle.explain.specs.Explain.{held_of, brittle_of, explanation_of}

@@ -1,9 +1,7 @@
 -- More laws of specs/All.antt: they rest on what a must-fail edit makes false. Assumes nothing.
-use Rattle.std.specs.Prelude.{ℕ, zero, suc, ◌+◌, ◌≤◌, ◌<◌, ◌≡◌, refl, Bool, true, false, ◌&&◌}
-use Rattle.std.proofs.Common.{sym, ap, ◌∙◌, true≢false, add-one, arith}
-use Rattle.std.proofs.Math.Logic.{dite}
-use Rattle.std.proofs.Math.Decide.{ℕ_discrete}
-use Rattle.bounded.specs.Tests.{both, and-true}
+use Rattle.std.specs.Prelude.{ℕ, ◌<◌, ◌≡◌, Bool, false}
+use Rattle.std.proofs.Common.{sym, ◌∙◌, true≢false, arith}
+use Rattle.bounded.specs.Tests.{both}
 use Rattle.bounded.specs.All.{all_to, all_at, all_start, all_next, all_done}
 
 -- the loop's bound n is the length m that the definition names

@@ -1,8 +1,7 @@
 -- More laws of specs/Quotient.antt: they rest on what a must-fail edit makes false. Assumes nothing.
-use Rattle.std.specs.Prelude.{ℕ, suc, ◌+◌, ◌-◌, ◌*◌, ◌/◌, ◌≤◌, ◌<◌, ◌≡◌}
+use Rattle.std.specs.Prelude.{ℕ, ◌*◌, ◌≤◌, ◌<◌, ◌≡◌}
 use Rattle.std.proofs.Math.Logic.{dite}
-use Rattle.std.proofs.Common.{div-lt_iff_lt-mul, mul-le-mul_right, arith}
-use Rattle.std.proofs.Math.Nat.{lt-div-mul-add, add-div_right}
+use Rattle.std.proofs.Common.{mul-le-mul_right, arith}
 use Rattle.std.proofs.Math.Decide.{dec_lt}
 use Rattle.bounded.specs.Quotient.{ceil_div, ceil_after, ceil_least}
 

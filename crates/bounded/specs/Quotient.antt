@@ -1,9 +1,7 @@
 -- A quotient rounded up, and its laws. Assumes nothing.
-use Rattle.std.specs.Prelude.{ℕ, suc, ◌+◌, ◌-◌, ◌*◌, ◌/◌, ◌≤◌, ◌<◌, ◌≡◌}
-use Rattle.std.proofs.Math.Logic.{dite}
-use Rattle.std.proofs.Common.{div-lt_iff_lt-mul, mul-le-mul_right, arith}
+use Rattle.std.specs.Prelude.{ℕ, suc, ◌+◌, ◌-◌, ◌*◌, ◌/◌, ◌≤◌, ◌≡◌}
+use Rattle.std.proofs.Common.{div-lt_iff_lt-mul, arith}
 use Rattle.std.proofs.Math.Nat.{lt-div-mul-add, add-div_right}
-use Rattle.std.proofs.Math.Decide.{dec_lt}
 
 -- a / b, rounded up
 unfoldable pub ceil_div : ℕ → ℕ → ℕ

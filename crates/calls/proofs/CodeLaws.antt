@@ -1,40 +1,21 @@
 -- More laws of specs/Code.antt: they rest on what a must-fail edit makes false. Assumes nothing.
-use Rattle.std.specs.Prelude.{ℕ, ◌+◌, ◌-◌, ◌*◌, ◌≤◌, ◌<◌, min, ◌≡◌, refl, Bool, true, false, not, ◌&&◌, cond, List, leb, eqb, ltb, ℤ, length, get_or, set, replicate}
-use Rattle.std.proofs.Math.Path.{sym, ap}
-use Rattle.std.proofs.Common.{subst, ◌∙◌, ⊎_elim, Fits}
-use Rattle.std.proofs.Math.Logic.{dite}
+use Rattle.std.specs.Prelude.{ℕ, ◌+◌, ◌-◌, ◌<◌, ◌≡◌, Bool, not, List, eqb, set}
+use Rattle.std.proofs.Math.Path.{sym}
+use Rattle.std.proofs.Common.{subst, ◌∙◌}
 use native.Mathlib.Omega.{arith}
-use Rattle.std.proofs.Math.Decide.{ℕ_discrete}
-use Rattle.std.proofs.Math.Dec.{lit≤}
-use Rattle.std.proofs.lemmas.List.{get_or-replicate}
-use Rattle.std.specs.Int.{w64}
-use borrow.Author.Tests.{lt-ltb, le-ltb, ltb-false, le-leb, lt-leb, eq-eqb, ne_eqb}
-use Rattle.bounded.specs.Tests.{both, gate, gate_on, gate_off, gate_le}
+use borrow.Author.Tests.{ltb-false}
+use Rattle.bounded.specs.Tests.{both, gate, gate_on, gate_off}
 use Rattle.bounded.specs.Sum.{sum_to, sum_next}
-use Rattle.bounded.specs.Besides.{besides}
-use Rattle.bounded.specs.Signed.{negative}
 use Rattle.table.specs.declared.rows.Task.{Task}
-use Rattle.table.specs.Rows.{horizon, tasks_of, FitRow, Fit}
+use Rattle.table.specs.Rows.{tasks_of}
 use Rattle.bounded.specs.Within.{Within}
-use Rattle.table.specs.Budgets.{budget_of, brittle}
 use Rattle.table.specs.declared.inverse.Prepared.{Prepared}
-use Rattle.table.specs.Statement.{HasKind}
-use Rattle.table.proofs.TheoremsLaws.{kind_means}
 use Rattle.table.specs.Inverse.{Ready}
 use Rattle.session.specs.declared.Job.{Job}
 use Rattle.session.specs.declared.Session.{Session}
-use Rattle.session.specs.declared.Answer.TheVariants.{Arrived, Advanced, Finished, NoRow, TooEarly, NoChoice, BadStep, Idling, ClockEnd}
-use Rattle.session.specs.declared.Outcome.{Outcome}
-use Rattle.edf.specs.Jobs.{jobs_by_lem}
-use Rattle.edf.specs.Demand.{TaskSet}
-use Rattle.edf.specs.State.{soonest, pending, to_come, row_load, load_besides}
-use Rattle.session.specs.Reading.{idle, clock_end, job_at, rows_of, tasks, waits, state_of}
-use Rattle.session.specs.Sound.{sound}
-use Rattle.session.specs.Facts.{Facts, Choice, Running, facts_of, facts_fit}
-use Rattle.session.specs.Arrive.{new_brittle, new_firm}
-use Rattle.session.specs.Ahead.{ahead_by, DueOf, ahead_is}
-use Rattle.session.specs.Brittle.{rows_count, Marks}
-use Rattle.session.specs.Calls.{refused, changed, over_job_lem, with_budget, stepped_of, arrived_by, arrived_job, arrive_in, aged_job, over_by, over_after, advance_in, unused_of, gains, given_job, finished_of, finish_in}
+use Rattle.edf.specs.State.{soonest, pending, to_come, row_load}
+use Rattle.session.specs.Reading.{job_at, tasks, waits, state_of}
+use Rattle.session.specs.Calls.{changed, aged_job}
 use Rattle.session.specs.Jobs.{done_to, done_past, done_next}
 use Rattle.calls.specs.Code.{ChoiceBounds, pending_by, pending_most, load_by, asked_of, Asking, place_of, aged_by, aged_row, place_due}
 

@@ -11,7 +11,7 @@ use Rattle.std.proofs.lemmas.List.{get_or-replicate}
 use Rattle.std.specs.Int.{w64}
 use borrow.Author.Tests.{lt-ltb, le-ltb, ltb-false, le-leb, lt-leb, eq-eqb, ne_eqb}
 use Rattle.bounded.specs.Tests.{both, gate, gate_on, gate_off, gate_le}
-use Rattle.bounded.specs.Sum.{sum_to, sum_next}
+use Rattle.bounded.specs.Sum.{sum_to}
 use Rattle.bounded.specs.Besides.{besides}
 use Rattle.bounded.specs.Signed.{negative}
 use Rattle.table.specs.declared.rows.Task.{Task}
@@ -28,7 +28,7 @@ use Rattle.session.specs.declared.Answer.TheVariants.{Arrived, Advanced, Finishe
 use Rattle.session.specs.declared.Outcome.{Outcome}
 use Rattle.edf.specs.Jobs.{jobs_by_lem}
 use Rattle.edf.specs.Demand.{TaskSet}
-use Rattle.edf.specs.State.{soonest, pending, to_come, row_load, load_besides}
+use Rattle.edf.specs.State.{row_load, load_besides}
 use Rattle.session.specs.Reading.{idle, clock_end, job_at, rows_of, tasks, waits, state_of}
 use Rattle.session.specs.Sound.{sound}
 use Rattle.session.specs.Facts.{Facts, Choice, Running, facts_of, facts_fit}

@@ -5,7 +5,7 @@ use Rattle.std.proofs.Math.Logic.{dite}
 use Rattle.std.proofs.Math.Decide.{dec_le, dec_lt, ℕ_discrete}
 use Rattle.bounded.specs.Tests.{both}
 use Rattle.edf.specs.Demand.{TaskSet, Lawful, Feasible}
-use Rattle.edf.specs.State.{State, soonest, pending, load, WellFormed, Slack, SlackOn, AllSlack, Elapsed, Head, pending_le, pending_in, pending_idle, pending_later, soonest_le, slack_ahead}
+use Rattle.edf.specs.State.{State, pending, load, WellFormed, Slack, SlackOn, AllSlack, Head, pending_le, pending_in, pending_idle, pending_later, slack_ahead}
 use Rattle.edf.proofs.StateLaws.{load_same, load_less, free_slack}
 use Rattle.edf.specs.Steps.{Run, Idle}
 use Rattle.edf.specs.Advance.{run_waits, idle_waits}

@@ -1,6 +1,6 @@
 -- More laws of specs/Arrive.antt: they rest on what a must-fail edit makes false. Assumes nothing.
 use Prim.Native.Nat.{ℕ, suc, ◌+◌, ◌-◌, ◌≤◌, ◌<◌}
-use Rattle.std.specs.Prelude.{◌≡◌, true, false}
+use Rattle.std.specs.Prelude.{◌≡◌, true}
 use Rattle.std.proofs.Common.{sym, ◌∙◌, le_of_eq, le_trans}
 use Rattle.std.proofs.Math.Logic.{dite}
 use Rattle.std.proofs.Math.Nat.{mul-le-mul_left}
@@ -14,7 +14,7 @@ use Rattle.bounded.proofs.QuotientLaws.{ceil_more}
 use Rattle.edf.specs.Jobs.{jobs_by_lem, jobs_none}
 use Rattle.edf.proofs.JobsLaws.{jobs_mono, jobs_first, jobs_one, jobs_ceil, jobs_room}
 use Rattle.edf.specs.Demand.{TaskSet, Lawful, row_request_lem, interference}
-use Rattle.edf.specs.State.{State, soonest, pending, to_come, row_load, load, load_besides, WellFormed, WellFormedJob, Same, Slack, SlackOn, Elapsed, pending_in, pending_idle, pending_later, pending_same, soonest_le, on_le}
+use Rattle.edf.specs.State.{State, soonest, pending, to_come, row_load, load, load_besides, WellFormed, WellFormedJob, Slack, SlackOn, pending_in, pending_idle, pending_later, on_le}
 use Rattle.edf.specs.Steps.{Arrive}
 use Rattle.edf.specs.Arrive.{ready_idle, Came, came_formed, kept_load, kept_formed}
 

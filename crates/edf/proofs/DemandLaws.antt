@@ -1,16 +1,13 @@
 -- More laws of specs/Demand.antt: they rest on what a must-fail edit makes false. Assumes nothing.
 use Prim.Native.Nat.{ℕ, zero, suc, ◌+◌, ◌-◌, ◌*◌, ◌≤◌, ◌<◌}
 use Rattle.std.specs.Prelude.{◌≡◌, ◌⊎◌}
-use Rattle.std.proofs.Common.{ap, inl, inr, ⊎_elim, mul-le-mul_right}
+use Rattle.std.proofs.Common.{inl, inr, ⊎_elim}
 use Rattle.std.proofs.Math.Logic.{dite}
-use Rattle.std.proofs.Math.Nat.{mul-le-mul_left, one-le-mul}
+use Rattle.std.proofs.Math.Nat.{mul-le-mul_left}
 use native.Mathlib.Omega.{arith}
 use Rattle.std.proofs.Math.Decide.{dec_le, dec_lt, ℕ_discrete}
-use Rattle.bounded.specs.Sum.{sum_to, sum_le, sum_lt, sum_add, sum_term, sum_zero}
-use Rattle.bounded.specs.Besides.{besides, sum_besides}
-use Rattle.bounded.specs.Quotient.{ceil_div}
-use Rattle.bounded.proofs.QuotientLaws.{ceil_mono, ceil_more, ceil_one}
-use Rattle.edf.specs.Jobs.{jobs_by_lem, jobs_none}
+use Rattle.bounded.specs.Sum.{sum_le, sum_lt, sum_add}
+use Rattle.edf.specs.Jobs.{jobs_by_lem}
 use Rattle.edf.proofs.JobsLaws.{jobs_mono, jobs_rise, jobs_split}
 use Rattle.edf.specs.Demand.{TaskSet, Lawful, row_demand_lem, demand, row_request_lem, request, interference, Feasible, strong, NoneDue, demand_none, demand_start, interference_request}
 

@@ -1,10 +1,10 @@
 -- More laws of specs/Finish.antt: they rest on what a must-fail edit makes false. Assumes nothing.
 use Rattle.std.specs.Prelude.{ℕ, ◌+◌, ◌≤◌, ◌<◌, ◌≡◌, true}
-use Rattle.std.proofs.Common.{sym, ◌∙◌, true≢false, arith}
+use Rattle.std.proofs.Common.{arith}
 use Rattle.std.proofs.Math.Logic.{dite}
 use Rattle.std.proofs.Math.Decide.{dec_lt}
 use Rattle.edf.specs.Demand.{TaskSet, Lawful, Feasible}
-use Rattle.edf.specs.State.{State, soonest, pending, load, WellFormed, Slack, SlackOn, AllSlack, Elapsed, pending_idle, pending_in, soonest_le, load_has, on_le}
+use Rattle.edf.specs.State.{State, pending, load, Slack, SlackOn, AllSlack, Elapsed, pending_idle, pending_in, load_has, on_le}
 use Rattle.edf.proofs.StateLaws.{load_less, free_slack}
 use Rattle.edf.specs.Steps.{Over, Finish, Start}
 use Rattle.edf.specs.Finish.{over_other, over_waits, start_none}

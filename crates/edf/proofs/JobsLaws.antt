@@ -1,11 +1,9 @@
 -- More laws of specs/Jobs.antt: they rest on what a must-fail edit makes false. Assumes nothing.
-use Rattle.std.specs.Prelude.{ℕ, zero, suc, ◌+◌, ◌-◌, ◌*◌, ◌/◌, ◌≤◌, ◌<◌, ◌≡◌, refl, leb}
+use Rattle.std.specs.Prelude.{ℕ, zero, suc, ◌+◌, ◌-◌, ◌*◌, ◌≤◌, ◌<◌, ◌≡◌, refl}
 use Rattle.std.proofs.Math.Logic.{dite}
-use Rattle.std.proofs.Common.{div-lt_iff_lt-mul, mul-le-mul_left, arith, le-leb}
+use Rattle.std.proofs.Common.{div-lt_iff_lt-mul, mul-le-mul_left, arith}
 use Rattle.std.proofs.Math.Nat.{lt-div-mul-add, div-eq_of_lt, add-div_right}
 use Rattle.std.proofs.Math.Decide.{dec_le, dec_lt}
-use Rattle.std.proofs.lemmas.Bool.{lt-leb}
-use Rattle.bounded.specs.Tests.{gate, gate_on, gate_off}
 use Rattle.bounded.specs.Quotient.{ceil_div, ceil_after}
 use Rattle.edf.specs.Jobs.{jobs_by_lem, jobs_none, jobs_some}
 

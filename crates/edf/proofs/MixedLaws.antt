@@ -2,7 +2,7 @@
 use Rattle.std.specs.Prelude.{ℕ, ◌+◌, ◌≤◌, ◌<◌, ◌≡◌, Bool, true, false}
 use Rattle.std.proofs.Common.{le_trans, arith}
 use Rattle.edf.specs.Demand.{TaskSet, Lawful, Feasible}
-use Rattle.edf.specs.State.{State, soonest, load, WellFormed, Slack, SlackOn, Head}
+use Rattle.edf.specs.State.{State, soonest, load, WellFormed, Head}
 use Rattle.edf.specs.Steps.{Arrive, Run, Idle, Finish, Start}
 use Rattle.edf.proofs.ArriveLaws.{arrive_slack, arrive_on}
 use Rattle.edf.specs.Arrive.{arrive_soonest}

@@ -1,15 +1,9 @@
 -- More laws of specs/Mixed.antt: they rest on what a must-fail edit makes false. Assumes nothing.
-use Rattle.std.specs.Prelude.{ℕ, ◌+◌, ◌≤◌, ◌<◌, ◌≡◌, Bool, true, false}
-use Rattle.std.proofs.Common.{le_trans, arith}
-use Rattle.edf.specs.Demand.{TaskSet, Lawful, Feasible}
-use Rattle.edf.specs.State.{State, soonest, load, WellFormed, Slack, SlackOn, Head}
-use Rattle.edf.specs.Steps.{Arrive, Run, Idle, Finish, Start}
-use Rattle.edf.proofs.ArriveLaws.{arrive_slack, arrive_on}
-use Rattle.edf.specs.Arrive.{arrive_soonest}
-use Rattle.edf.proofs.AdvanceLaws.{run_slack, run_near, run_head, idle_slack, idle_all}
-use Rattle.edf.specs.Advance.{run_soonest}
-use Rattle.edf.proofs.FinishLaws.{over_on, finish_slack, start_all}
-use Rattle.edf.specs.Finish.{over_soonest, start_slack}
+use Rattle.std.specs.Prelude.{ℕ, ◌+◌, ◌≡◌, Bool, true}
+use Rattle.std.proofs.Common.{arith}
+use Rattle.edf.specs.Demand.{TaskSet, Lawful}
+use Rattle.edf.specs.State.{State, WellFormed}
+use Rattle.edf.specs.Steps.{Arrive}
 use Rattle.edf.specs.Mixed.{Watched, MixedSlack}
 use Rattle.edf.proofs.MixedLaws.{mixed_arrive}
 

@@ -1,9 +1,8 @@
 -- More laws of specs/Response.antt: they rest on what a must-fail edit makes false. Assumes nothing.
-use Rattle.std.specs.Prelude.{ℕ, ◌+◌, ◌≤◌, ◌<◌, ◌≡◌, true}
-use Rattle.std.proofs.Common.{le_refl}
+use Rattle.std.specs.Prelude.{ℕ, ◌+◌, ◌≤◌}
 use native.Mathlib.Omega.{arith}
-use Rattle.edf.specs.Demand.{TaskSet, Lawful, interference}
-use Rattle.edf.specs.State.{State, load, WellFormed, load_has}
+use Rattle.edf.specs.Demand.{TaskSet, Lawful}
+use Rattle.edf.specs.State.{State, WellFormed}
 use Rattle.edf.proofs.StateLaws.{load_same}
 use Rattle.edf.specs.Steps.{Arrive, Run, Idle, Over}
 use Rattle.edf.proofs.ArriveLaws.{besides_upto, load_arrived, arrive_load}

@@ -1,10 +1,10 @@
 -- More laws of specs/Safe.antt: they rest on what a must-fail edit makes false. Assumes nothing.
-use Rattle.std.specs.Prelude.{ℕ, ◌+◌, ◌≤◌, ◌<◌, ◌≡◌, Bool, true, false, ◌⊎◌}
-use Rattle.std.proofs.Common.{sym, ◌∙◌, true≢false, inl, inr, arith}
+use Rattle.std.specs.Prelude.{ℕ, ◌+◌, ◌≤◌, ◌≡◌, Bool, true, false}
+use Rattle.std.proofs.Common.{sym, ◌∙◌, true≢false, inl, inr}
 use Rattle.bounded.specs.Tests.{both}
 use Rattle.edf.specs.Demand.{TaskSet, Lawful, Feasible}
-use Rattle.edf.specs.State.{State, soonest, load, WellFormed, Elapsed, Head}
-use Rattle.edf.specs.Steps.{Arrive, Run, Idle, Finish, Start}
+use Rattle.edf.specs.State.{State, load}
+use Rattle.edf.specs.Steps.{Arrive, Run, Idle, Start}
 use Rattle.edf.proofs.ArriveLaws.{arrive_formed}
 use Rattle.edf.specs.Arrive.{arrive_elapsed}
 use Rattle.edf.proofs.AdvanceLaws.{run_formed, idle_formed, idle_slack}

@@ -1,15 +1,9 @@
 -- More laws of specs/State.antt: they rest on what a must-fail edit makes false. Assumes nothing.
-use Rattle.std.specs.Prelude.{ℕ, ◌+◌, ◌-◌, ◌*◌, max, ◌≤◌, ◌<◌, ◌≡◌, Bool, true, false, leb}
-use Rattle.std.proofs.Common.{◌∙◌, le_refl, le_trans, le-leb}
-use Rattle.std.proofs.Math.Logic.{dite}
+use Rattle.std.specs.Prelude.{ℕ, ◌+◌, ◌-◌, ◌*◌, ◌≤◌, ◌<◌, ◌≡◌, true}
 use Rattle.std.proofs.Math.Nat.{mul-le-mul_left}
 use native.Mathlib.Omega.{arith}
-use Rattle.std.proofs.Math.Decide.{ℕ_discrete}
-use Rattle.std.proofs.lemmas.Bool.{lt-leb}
-use Rattle.bounded.specs.Sum.{sum_to, sum_le, sum_term, sum_le_at}
-use Rattle.bounded.specs.Besides.{besides}
-use Rattle.bounded.specs.Tests.{gate, gate_on, gate_off, gate_le, both}
-use Rattle.edf.specs.Jobs.{jobs_by_lem}
+use Rattle.bounded.specs.Sum.{sum_le, sum_le_at}
+use Rattle.bounded.specs.Tests.{both}
 use Rattle.edf.proofs.JobsLaws.{jobs_mono}
 use Rattle.edf.specs.Demand.{TaskSet, Lawful, row_demand_lem, demand, Feasible}
 use Rattle.edf.specs.State.{State, soonest, pending, to_come, row_load, load, Same, Others, pending_idle, pending_later, pending_same, soonest_le}

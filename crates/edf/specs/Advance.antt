@@ -1,11 +1,10 @@
 -- Time that passes, with a job that runs or with none, keeps what makes every deadline met. Assumes nothing.
-use Rattle.std.specs.Prelude.{ℕ, ◌+◌, ◌-◌, ◌≤◌, ◌<◌, ◌≡◌, true, false}
-use Rattle.std.proofs.Common.{sym, ◌∙◌, true≢false, le_refl, arith, ltb-true}
+use Rattle.std.specs.Prelude.{ℕ, ◌≤◌, ◌<◌, ◌≡◌, true}
+use Rattle.std.proofs.Common.{sym, ◌∙◌, arith}
 use Rattle.std.proofs.Math.Logic.{dite}
-use Rattle.std.proofs.Math.Decide.{dec_le, dec_lt, ℕ_discrete}
-use Rattle.bounded.specs.Tests.{both}
-use Rattle.edf.specs.Demand.{TaskSet, Lawful, Feasible}
-use Rattle.edf.specs.State.{State, soonest, pending, load, WellFormed, Slack, SlackOn, AllSlack, Elapsed, Head, pending_le, pending_in, pending_idle, pending_later, soonest_le, slack_ahead}
+use Rattle.std.proofs.Math.Decide.{ℕ_discrete}
+use Rattle.edf.specs.Demand.{TaskSet, Lawful}
+use Rattle.edf.specs.State.{State, soonest, Elapsed, soonest_le}
 use Rattle.edf.specs.Steps.{Run, Idle}
 
 module _ (τ : TaskSet) (ok : Lawful τ) (s s' : State) (k m : ℕ) (st : Run τ k m s s') where

@@ -1,19 +1,13 @@
 -- An arrival keeps what makes every deadline met. Assumes nothing.
-use Prim.Native.Nat.{ℕ, suc, ◌+◌, ◌-◌, ◌≤◌, ◌<◌}
+use Prim.Native.Nat.{ℕ, ◌+◌, ◌≤◌, ◌<◌}
 use Rattle.std.specs.Prelude.{◌≡◌, true, false}
-use Rattle.std.proofs.Common.{sym, ◌∙◌, le_of_eq, le_trans}
+use Rattle.std.proofs.Common.{sym, ◌∙◌}
 use Rattle.std.proofs.Math.Logic.{dite}
-use Rattle.std.proofs.Math.Nat.{mul-le-mul_left}
 use native.Mathlib.Omega.{arith}
-use Rattle.std.proofs.Math.Decide.{dec_le, ℕ_discrete}
-use Rattle.bounded.specs.Sum.{sum_eq}
-use Rattle.bounded.specs.Besides.{sum_besides, sum_besides_le}
+use Rattle.std.proofs.Math.Decide.{ℕ_discrete}
 use Rattle.bounded.specs.Tests.{both}
-use Rattle.bounded.specs.Quotient.{ceil_div}
-use Rattle.bounded.proofs.QuotientLaws.{ceil_more}
-use Rattle.edf.specs.Jobs.{jobs_by_lem, jobs_none}
-use Rattle.edf.specs.Demand.{TaskSet, Lawful, row_request_lem, interference}
-use Rattle.edf.specs.State.{State, soonest, pending, to_come, row_load, load, load_besides, WellFormed, WellFormedJob, Same, Slack, SlackOn, Elapsed, pending_in, pending_idle, pending_later, pending_same, soonest_le, on_le}
+use Rattle.edf.specs.Demand.{TaskSet, Lawful}
+use Rattle.edf.specs.State.{State, soonest, to_come, row_load, WellFormed, WellFormedJob, Same, Elapsed, pending_same, soonest_le}
 use Rattle.edf.specs.Steps.{Arrive}
 
 module _ (τ : TaskSet) (ok : Lawful τ) (s : State) (formed : WellFormed τ s) where

@@ -1,13 +1,11 @@
 -- A table of rows, the work that its jobs ask for, and the facts by which it is judged. Assumes nothing.
 -- ---- definitions
-use Prim.Native.Nat.{ℕ, zero, suc, ◌+◌, ◌-◌, ◌*◌, ◌≤◌, ◌<◌}
-use Rattle.std.specs.Prelude.{◌≡◌, ◌⊎◌}
-use Rattle.std.proofs.Common.{ap, inl, inr, ⊎_elim, mul-le-mul_right}
-use Rattle.std.proofs.Math.Logic.{dite}
+use Prim.Native.Nat.{ℕ, zero, suc, ◌+◌, ◌*◌, ◌≤◌, ◌<◌}
+use Rattle.std.specs.Prelude.{◌≡◌}
+use Rattle.std.proofs.Common.{ap, mul-le-mul_right}
 use Rattle.std.proofs.Math.Nat.{mul-le-mul_left, one-le-mul}
 use native.Mathlib.Omega.{arith}
-use Rattle.std.proofs.Math.Decide.{dec_le, dec_lt, ℕ_discrete}
-use Rattle.bounded.specs.Sum.{sum_to, sum_le, sum_lt, sum_add, sum_term, sum_zero}
+use Rattle.bounded.specs.Sum.{sum_to, sum_le, sum_term, sum_zero}
 use Rattle.bounded.specs.Besides.{besides, sum_besides}
 use Rattle.bounded.specs.Quotient.{ceil_div}
 use Rattle.bounded.proofs.QuotientLaws.{ceil_mono, ceil_more, ceil_one}

@@ -1,11 +1,9 @@
 -- A job that is over keeps what makes every deadline met, and a fresh state has it. Assumes nothing.
-use Rattle.std.specs.Prelude.{ℕ, ◌+◌, ◌≤◌, ◌<◌, ◌≡◌, true}
+use Rattle.std.specs.Prelude.{ℕ, ◌≤◌, ◌<◌, ◌≡◌, true}
 use Rattle.std.proofs.Common.{sym, ◌∙◌, true≢false, arith}
-use Rattle.std.proofs.Math.Logic.{dite}
-use Rattle.std.proofs.Math.Decide.{dec_lt}
-use Rattle.edf.specs.Demand.{TaskSet, Lawful, Feasible}
-use Rattle.edf.specs.State.{State, soonest, pending, load, WellFormed, Slack, SlackOn, AllSlack, Elapsed, pending_idle, pending_in, soonest_le, load_has, on_le}
-use Rattle.edf.specs.Steps.{Over, Finish, Start}
+use Rattle.edf.specs.Demand.{TaskSet, Lawful}
+use Rattle.edf.specs.State.{State, soonest, WellFormed, Slack, Elapsed, soonest_le}
+use Rattle.edf.specs.Steps.{Over, Start}
 
 module _ (τ : TaskSet) (ok : Lawful τ) (s s' : State) (k : ℕ) (st : Over τ k s s') where
   -- a job that waits after it is of another row, and waited before it

@@ -1,12 +1,8 @@
 -- How many jobs of one row fall due by a time, where they arrive as early and as often as they may. Assumes nothing.
-use Rattle.std.specs.Prelude.{ℕ, zero, suc, ◌+◌, ◌-◌, ◌*◌, ◌/◌, ◌≤◌, ◌<◌, ◌≡◌, refl, leb}
-use Rattle.std.proofs.Math.Logic.{dite}
-use Rattle.std.proofs.Common.{div-lt_iff_lt-mul, mul-le-mul_left, arith, le-leb}
-use Rattle.std.proofs.Math.Nat.{lt-div-mul-add, div-eq_of_lt, add-div_right}
-use Rattle.std.proofs.Math.Decide.{dec_le, dec_lt}
+use Rattle.std.specs.Prelude.{ℕ, ◌+◌, ◌-◌, ◌/◌, ◌≤◌, ◌<◌, ◌≡◌, leb}
+use Rattle.std.proofs.Common.{le-leb}
 use Rattle.std.proofs.lemmas.Bool.{lt-leb}
 use Rattle.bounded.specs.Tests.{gate, gate_on, gate_off}
-use Rattle.bounded.specs.Quotient.{ceil_div, ceil_after}
 
 -- of the jobs that arrive at 0, T, 2 T, .. and are due D after it, how many are due by t: (t - D) / T, rounded down,
 -- plus 1, where D ≤ t, and else 0 (docs/SPECIFICATION.md §2.3; the demand bound function of one task of cost 1)

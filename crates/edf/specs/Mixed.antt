@@ -1,12 +1,7 @@
 -- Tables with brittle rows: what makes every deadline met there, and that each step keeps it. Assumes nothing.
-use Rattle.std.specs.Prelude.{ℕ, ◌+◌, ◌≤◌, ◌<◌, ◌≡◌, Bool, true, false}
-use Rattle.std.proofs.Common.{le_trans, arith}
-use Rattle.edf.specs.Demand.{TaskSet, Lawful, Feasible}
-use Rattle.edf.specs.State.{State, soonest, load, WellFormed, Slack, SlackOn, Head}
-use Rattle.edf.specs.Steps.{Arrive, Run, Idle, Finish, Start}
-use Rattle.edf.specs.Arrive.{arrive_soonest}
-use Rattle.edf.specs.Advance.{run_soonest}
-use Rattle.edf.specs.Finish.{over_soonest, start_slack}
+use Rattle.std.specs.Prelude.{ℕ, ◌+◌, ◌≤◌, ◌<◌, ◌≡◌, Bool, true}
+use Rattle.edf.specs.Demand.{TaskSet}
+use Rattle.edf.specs.State.{State, soonest, Slack, SlackOn}
 
 -- d is no earlier than the earliest deadline that the next job of some brittle row can have
 pub record Watched (τ : TaskSet) (brittle : ℕ → Bool) (s : State) (d : ℕ) : Type 0 where

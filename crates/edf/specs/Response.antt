@@ -5,8 +5,7 @@ use Rattle.std.specs.Prelude.{ℕ, ◌+◌, ◌≤◌, ◌<◌, ◌≡◌, true}
 use Rattle.std.proofs.Common.{le_refl}
 use native.Mathlib.Omega.{arith}
 use Rattle.edf.specs.Demand.{TaskSet, Lawful, interference}
-use Rattle.edf.specs.State.{State, load, WellFormed, load_has}
-use Rattle.edf.specs.Steps.{Arrive, Run, Idle, Over}
+use Rattle.edf.specs.State.{State, load, load_has}
 
 -- how long a job of row i can take where no later job runs before it: C, and what the other rows can ask for in a stretch of D. It is
 -- D − V.

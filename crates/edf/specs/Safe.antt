@@ -3,12 +3,9 @@
 use Rattle.std.specs.Prelude.{ℕ, ◌+◌, ◌≤◌, ◌<◌, ◌≡◌, Bool, true, false, ◌⊎◌}
 use Rattle.std.proofs.Common.{sym, ◌∙◌, true≢false, inl, inr, arith}
 use Rattle.bounded.specs.Tests.{both}
-use Rattle.edf.specs.Demand.{TaskSet, Lawful, Feasible}
+use Rattle.edf.specs.Demand.{TaskSet}
 use Rattle.edf.specs.State.{State, soonest, load, WellFormed, Elapsed, Head}
-use Rattle.edf.specs.Steps.{Arrive, Run, Idle, Finish, Start}
-use Rattle.edf.specs.Arrive.{arrive_elapsed}
-use Rattle.edf.specs.Advance.{run_elapsed, idle_elapsed}
-use Rattle.edf.specs.Finish.{over_formed, over_elapsed, start_formed, start_elapsed}
+use Rattle.edf.specs.Steps.{Arrive, Run, Idle, Finish}
 use Rattle.edf.specs.Mixed.{MixedSlack}
 
 pub record Safe (τ : TaskSet) (brittle : ℕ → Bool) (s : State) : Type 0 where

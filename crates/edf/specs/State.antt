@@ -3,15 +3,14 @@
 use Rattle.std.specs.Prelude.{ℕ, ◌+◌, ◌-◌, ◌*◌, max, ◌≤◌, ◌<◌, ◌≡◌, Bool, true, false, leb}
 use Rattle.std.proofs.Common.{◌∙◌, le_refl, le_trans, le-leb}
 use Rattle.std.proofs.Math.Logic.{dite}
-use Rattle.std.proofs.Math.Nat.{mul-le-mul_left}
 use native.Mathlib.Omega.{arith}
 use Rattle.std.proofs.Math.Decide.{ℕ_discrete}
 use Rattle.std.proofs.lemmas.Bool.{lt-leb}
-use Rattle.bounded.specs.Sum.{sum_to, sum_le, sum_term, sum_le_at}
+use Rattle.bounded.specs.Sum.{sum_to, sum_term}
 use Rattle.bounded.specs.Besides.{besides}
-use Rattle.bounded.specs.Tests.{gate, gate_on, gate_off, gate_le, both}
+use Rattle.bounded.specs.Tests.{gate, gate_on, gate_off, gate_le}
 use Rattle.edf.specs.Jobs.{jobs_by_lem}
-use Rattle.edf.specs.Demand.{TaskSet, Lawful, row_demand_lem, demand, Feasible}
+use Rattle.edf.specs.Demand.{TaskSet, Lawful}
 
 -- the clock; and of row i: its earliest next arrival, whether a job of it waits, and of that job the deadline, the
 -- remaining ticks and the budget left: how long jobs of later deadline, or none, may still run before it (the

@@ -1,20 +1,15 @@
 -- More laws of specs/Tick.antt: they rest on what a must-fail edit makes false. Assumes nothing.
-use Rattle.std.specs.Prelude.{ℕ, zero, suc, ◌+◌, ◌-◌, ◌*◌, max, ◌≤◌, ◌<◌, ◌≡◌, Bool, true, false, ◌⊎◌, ltb}
-use Rattle.std.proofs.Math.Path.{refl, ap}
-use Rattle.std.proofs.Common.{sym, ◌∙◌, true≢false, inl, inr, ⊎_elim, lt-ltb, ltb-true, ltb-false, eq-eqb, ne_eqb}
-use Rattle.std.proofs.Math.Logic.{dite}
+use Rattle.std.specs.Prelude.{ℕ, ◌≡◌, Bool, true, false}
+use Rattle.std.proofs.Math.Path.{refl}
+use Rattle.std.proofs.Common.{sym, ◌∙◌}
 use native.Mathlib.Omega.{arith}
-use Rattle.std.proofs.Math.Decide.{dec_le, ℕ_discrete}
-use Rattle.bounded.specs.Sum.{sum_eq, sum_le_at}
+use Rattle.bounded.specs.Sum.{sum_eq}
 use Rattle.bounded.specs.Tests.{both}
-use Rattle.edf.specs.Jobs.{jobs_by_lem, jobs_none}
-use Rattle.edf.specs.Demand.{TaskSet, Lawful, row_demand_lem, demand}
-use Rattle.edf.specs.State.{State, soonest, pending, to_come, row_load, load, WellFormed, Same, pending_in, pending_idle, pending_later, pending_le, pending_same}
-use Rattle.edf.proofs.StateLaws.{load_less}
-use Rattle.edf.specs.Arrivals.{Tick, to, none}
+use Rattle.edf.specs.Demand.{TaskSet, Lawful}
+use Rattle.edf.specs.State.{row_load, load, WellFormed, Same}
 use Rattle.edf.specs.Arrive.{Came, came_formed, kept_load, kept_formed}
 use Rattle.edf.proofs.ArriveLaws.{came_load}
-use Rattle.game.specs.Game.{Position, Waits, opening, Legal, released, MayPlay, played, Missed}
+use Rattle.game.specs.Game.{Position, Legal, released}
 use Rattle.game.specs.Tick.{state_of, waits_is}
 
 -- ---- a release changes no load, and leaves jobs well formed

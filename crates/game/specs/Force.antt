@@ -1,20 +1,17 @@
 -- Where the demand exceeds t, the line of releases to t wins whatever is played. Assumes nothing.
-use Rattle.std.specs.Prelude.{ℕ, zero, suc, ◌+◌, ◌-◌, ◌*◌, ◌/◌, ◌%◌, ◌≤◌, ◌<◌, ◌≡◌, refl, Bool, false, ◌⊎◌, ltb, eqb}
-use Rattle.std.proofs.Common.{sym, ap, ◌∙◌, true≢false, mul-le-mul_right, div-add-mod', arith}
+use Rattle.std.specs.Prelude.{ℕ, zero, suc, ◌+◌, ◌*◌, ◌/◌, ◌%◌, ◌≤◌, ◌<◌, ◌≡◌, refl, Bool, false, ◌⊎◌, ltb, eqb}
+use Rattle.std.proofs.Common.{sym, ◌∙◌, true≢false, mul-le-mul_right, div-add-mod', arith}
 use Rattle.std.proofs.Math.Bool.{true}
 use Rattle.std.proofs.Math.Logic.{dite, inl, inr, ⊎_elim}
-use Rattle.std.proofs.Math.Nat.{mul-add-mod_self_right, zero-mod}
+use Rattle.std.proofs.Math.Nat.{mul-add-mod_self_right}
 use Rattle.std.proofs.Math.Decide.{dec_le, dec_lt, ℕ_discrete}
 use borrow.Author.Tests.{lt-ltb, le-leb, ltb-true, eq-eqb, eqb-true}
-use Rattle.bounded.specs.Sum.{sum_lt, sum_zero}
 use Rattle.bounded.specs.Tests.{both, and-true, and_both}
-use Rattle.edf.specs.Jobs.{jobs_by_lem, jobs_none}
-use Rattle.edf.specs.Demand.{TaskSet, Lawful, row_demand_lem, demand}
-use Rattle.edf.specs.State.{soonest, pending, to_come, row_load, load, WellFormed, pending_idle, pending_later}
+use Rattle.edf.specs.Demand.{TaskSet, Lawful}
+use Rattle.edf.specs.State.{load, WellFormed}
 use Rattle.edf.specs.Arrivals.{Tick, to, none}
-use Rattle.game.specs.Game.{Position, opening, Legal, released, MayPlay, played, Missed, Forces, Wins, line_to}
-use Rattle.game.specs.Statement.{LineWins}
-use Rattle.game.specs.Tick.{state_of, is_waits, tick_clock, Past, tick_most, tick_formed, opening_load, opening_formed}
+use Rattle.game.specs.Game.{Position, Legal, released, played, Forces, Wins, line_to}
+use Rattle.game.specs.Tick.{state_of, Past}
 
 -- a line that wins whatever is played is a way to force it
 pub wins_forces : (τ : TaskSet) (l : ℕ → ℕ → Bool) (n : ℕ) (p : Position) → Wins τ l n p → Forces τ n p

@@ -1,7 +1,7 @@
 -- What a release and a tick do to the load, to jobs that are well formed, and to deadlines. Assumes nothing.
-use Rattle.std.specs.Prelude.{ℕ, zero, suc, ◌+◌, ◌-◌, ◌*◌, max, ◌≤◌, ◌<◌, ◌≡◌, Bool, true, false, ◌⊎◌, ltb}
+use Rattle.std.specs.Prelude.{ℕ, zero, suc, ◌+◌, ◌-◌, ◌*◌, max, ◌≤◌, ◌<◌, ◌≡◌, true, ◌⊎◌, ltb}
 use Rattle.std.proofs.Math.Path.{refl, ap}
-use Rattle.std.proofs.Common.{sym, ◌∙◌, true≢false, inl, inr, ⊎_elim, lt-ltb, ltb-true, ltb-false, eq-eqb, ne_eqb}
+use Rattle.std.proofs.Common.{sym, true≢false, inl, inr, ⊎_elim, lt-ltb, ltb-true, ltb-false, eq-eqb, ne_eqb}
 use Rattle.std.proofs.Math.Logic.{dite}
 use native.Mathlib.Omega.{arith}
 use Rattle.std.proofs.Math.Decide.{dec_le, ℕ_discrete}
@@ -12,9 +12,7 @@ use Rattle.edf.specs.Demand.{TaskSet, Lawful, row_demand_lem, demand}
 use Rattle.edf.specs.State.{State, soonest, pending, to_come, row_load, load, WellFormed, Same, pending_in, pending_idle, pending_later, pending_le, pending_same}
 use Rattle.edf.proofs.StateLaws.{load_less}
 use Rattle.edf.specs.Arrivals.{Tick, to, none}
-use Rattle.edf.specs.Arrive.{Came, came_formed, kept_load, kept_formed}
-use Rattle.edf.proofs.ArriveLaws.{came_load}
-use Rattle.game.specs.Game.{Position, Waits, opening, Legal, released, MayPlay, played, Missed}
+use Rattle.game.specs.Game.{Position, Waits, opening, MayPlay, played, Missed}
 
 -- the position as a state of the scheduler; no job has a budget
 abbrev pub state_of : Position → State

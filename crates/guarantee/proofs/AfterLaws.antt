@@ -4,7 +4,7 @@ use mathlib.Core.List.{List, [], ◌∷◌, ◌++◌, map}
 use Rattle.edf.specs.Demand.{TaskSet}
 use Rattle.session.specs.declared.Session.{Session}
 use Rattle.session.specs.declared.Arrival.{Arrival}
-use Rattle.session.specs.Calls.{shown, arrive_of}
+use Rattle.session.specs.Calls.{arrive_of}
 use Rattle.session.specs.Batch.{after_all, answered_all}
 use Rattle.guarantee.specs.Ledger.{Call, arrive, Event, Ledger, kept, ledger_from}
 use Rattle.guarantee.specs.Statement.{outcome_of, HostCall, single, batch, session_by, record_event, events_by, session_after, events_of}

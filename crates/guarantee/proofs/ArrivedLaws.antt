@@ -7,9 +7,8 @@ use Rattle.table.specs.Rows.{tasks_of}
 use Rattle.session.specs.declared.Job.{Job}
 use Rattle.session.specs.Reading.{job_at, waits}
 use Rattle.session.specs.Order.{arrival_of}
-use Rattle.session.specs.Before.{came_greater}
 use Rattle.guarantee.specs.Ledger.{Entry}
-use Rattle.guarantee.specs.Statement.{session_from, GreaterFirst, here, past, Arrived, ArrivalsTold}
+use Rattle.guarantee.specs.Statement.{session_from, here, past, Arrived, ArrivalsTold}
 use Rattle.guarantee.specs.TiesRow.{over, waiting, Follows, nothing, other, latest}
 use Rattle.guarantee.specs.Keeps.{good_reached}
 use Rattle.guarantee.proofs.GuaranteeLaws.{tied_reached}

@@ -1,17 +1,14 @@
 -- More laws of specs/Guarantee.antt: they rest on what a must-fail edit makes false. Assumes nothing.
-use Rattle.std.specs.Prelude.{ℕ, ◌≡◌, refl, List, [], ◌∷◌, map}
-use Rattle.std.proofs.Common.{sym, ap, ◌∙◌}
+use Rattle.std.specs.Prelude.{ℕ, ◌≡◌, List, [], ◌∷◌, map}
 use Rattle.table.specs.Rows.{tasks_of}
-use Rattle.table.specs.Verdict.{Opinion, opinion_of}
-use Rattle.table.specs.Opinion.{says_of, says_one}
-use Rattle.table.proofs.TheoremsLaws as tables
+use Rattle.table.specs.Verdict.{opinion_of}
 use Rattle.session.specs.declared.Session.{Session}
 use Rattle.session.specs.declared.Arrival.{Arrival}
-use Rattle.session.specs.Calls.{shown, arrive_of}
+use Rattle.session.specs.Calls.{arrive_of}
 use Rattle.session.specs.Batch.{after_all, answered_all}
-use Rattle.session.specs.Start.{fresh_of, start_of, start_fresh, start_same}
-use Rattle.guarantee.specs.Ledger.{arrive, Event, Ledger, empty, kept, ledger_from, ledger_of}
-use Rattle.guarantee.specs.Statement.{HostCall, single, batch, session_by, record_event, events_by, session_after, session_from, events_of, StartIsOpinion, NoJobLate, OneByOne, OverloadDeserved, Deterministic, DeterministicAfter}
+use Rattle.session.specs.Start.{start_of}
+use Rattle.guarantee.specs.Ledger.{arrive, Ledger, empty, kept, ledger_from, ledger_of}
+use Rattle.guarantee.specs.Statement.{HostCall, single, batch, session_by, record_event, events_by, session_after, session_from, events_of, NoJobLate}
 use Rattle.guarantee.specs.Good.{Good}
 use Rattle.guarantee.specs.KeepsFresh.{good_fresh}
 use Rattle.guarantee.specs.Keeps.{good_call, good_by, good_reached}

@@ -1,21 +1,18 @@
 -- More laws of specs/Responds.antt: they rest on what a must-fail edit makes false. Assumes nothing.
-use Rattle.std.specs.Prelude.{ℕ, ◌+◌, ◌-◌, ◌≤◌, ◌<◌, ◌≡◌, Bool, ◌||◌, leb, ltb, ℤ, pos, ◌+ℤ◌, ◌-ℤ◌, length}
+use Rattle.std.specs.Prelude.{ℕ, ◌+◌, ◌-◌, ◌≤◌, ◌<◌, ◌≡◌, Bool, ◌||◌, leb, ltb}
 use Rattle.std.proofs.Math.Path.{refl, ap, subst}
 use Rattle.std.proofs.Common.{sym, ◌∙◌, true≢false}
 use Rattle.std.proofs.Math.Bool.{true, false}
 use mathlib.Core.List.{List, [], ◌∷◌}
 use Rattle.std.proofs.Math.Logic.{⊎_elim}
 use native.Mathlib.Omega.{arith}
-use borrow.Author.Tests.{eq-eqb, ne_eqb, lt-ltb, le-ltb, ltb-false}
+use borrow.Author.Tests.{eq-eqb, ne_eqb, le-ltb, ltb-false}
 use Rattle.bounded.specs.Tests.{both, gate, gate_on, gate_off}
 use Rattle.edf.specs.Demand.{TaskSet, Lawful}
 use Rattle.edf.specs.State.{State}
-use Rattle.edf.specs.Response.{response_of, reach, reach_left}
+use Rattle.edf.specs.Response.{reach, reach_left}
 use Rattle.edf.proofs.ResponseLaws.{reach_arrive, reach_new, reach_run, reach_past, reach_idle, reach_over}
 use Rattle.table.specs.Rows.{tasks_of, fit_lawful}
-use Rattle.table.specs.Verdict.{opinion_of}
-use Rattle.table.specs.Budgets.{response_is}
-use Rattle.table.proofs.TheoremsLaws.{each_budget}
 use Rattle.session.specs.declared.Job.{Job}
 use Rattle.session.specs.declared.Session.{Session}
 use Rattle.session.specs.declared.Answer.{Answer}
@@ -24,19 +21,18 @@ use Rattle.session.specs.Facts.{Running, Choice}
 use Rattle.session.specs.Calls.{Shown, shown, changed, jobs_with, aged_job, given_job}
 use Rattle.session.specs.Arrive.{with_arrived}
 use Rattle.session.specs.Start.{start_of}
-use Rattle.guarantee.specs.Ledger.{Call, arrive, choose, advance, finish, none, at, Entry, Ledger, empty, ran, ended, on_latest, noted, kept}
+use Rattle.guarantee.specs.Ledger.{Call, arrive, choose, advance, finish, none, Entry, Ledger, empty, ran, ended, on_latest, noted, kept}
 use Rattle.guarantee.specs.Statement.{outcome_of}
 use Rattle.guarantee.specs.History.{due_of, unended, later_than, overtakes, passed_over, counted, recounted, counts_after}
-use Rattle.guarantee.specs.Late.{bound_of, Bounded, AllBounded, no_entry, one_more, HowLate}
+use Rattle.guarantee.specs.Late.{HowLate}
 use Rattle.guarantee.specs.Good.{Good, in_table}
 use Rattle.guarantee.specs.Effects.{Effect, refusal, arrived, chosen, advanced, finished, effect_of}
 use Rattle.guarantee.specs.KeepsArrive.{arrive_step}
 use Rattle.guarantee.specs.KeepsAdvance.{run_step, idle_step}
 use Rattle.guarantee.specs.KeepsFinish.{over_step}
-use Rattle.guarantee.specs.KeepsFresh.{good_fresh}
 use Rattle.guarantee.specs.Keeps.{good_call}
-use Rattle.guarantee.specs.TiesRow.{Stands, over, waiting, Follows, nothing, other, latest, Each}
-use Rattle.guarantee.specs.Ties.{Tied, tied_fresh}
+use Rattle.guarantee.specs.TiesRow.{Stands, Follows, nothing, other, latest}
+use Rattle.guarantee.specs.Ties.{Tied}
 use Rattle.guarantee.proofs.TiesLaws.{tied_call}
 use Rattle.guarantee.specs.After.{event_of}
 use Rattle.guarantee.proofs.AfterLaws.{after_calls}

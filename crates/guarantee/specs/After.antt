@@ -1,15 +1,12 @@
 -- What each call keeps holds after every list of calls, batches among them: of the ledger, its counts and the session
 -- (docs/SPECIFICATION.md §6.2, §14.1). Assumes nothing.
-use Rattle.std.specs.Prelude.{ℕ, ◌≡◌, refl}
-use mathlib.Core.List.{List, [], ◌∷◌, ◌++◌, map}
+use Rattle.std.specs.Prelude.{◌≡◌, refl}
+use mathlib.Core.List.{List, [], ◌∷◌, ◌++◌}
 use Rattle.edf.specs.Demand.{TaskSet}
 use Rattle.session.specs.declared.Session.{Session}
-use Rattle.session.specs.declared.Arrival.{Arrival}
-use Rattle.session.specs.Calls.{shown, arrive_of}
-use Rattle.session.specs.Batch.{after_all, answered_all}
-use Rattle.guarantee.specs.Ledger.{Call, arrive, Event, Ledger, kept, ledger_from}
-use Rattle.guarantee.specs.Statement.{outcome_of, HostCall, single, batch, session_by, record_event, events_by, session_after, events_of}
-use Rattle.guarantee.specs.History.{counts_after, counts_from}
+use Rattle.session.specs.Calls.{shown}
+use Rattle.guarantee.specs.Ledger.{Call, Event, Ledger, kept, ledger_from}
+use Rattle.guarantee.specs.Statement.{outcome_of}
 
 -- the ledger of two lists of events is kept from the second after the first, and so are the counts
 pub ledger_more : (τ : TaskSet) (g : Ledger) (x y : List Event) → ledger_from τ g (x ++ y) ≡ ledger_from τ (ledger_from τ g x) y

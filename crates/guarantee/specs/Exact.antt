@@ -1,6 +1,6 @@
 -- Which candidate each number of a draw names, how long the chosen one may run, that no word is divided by 0, and that no span is 0
 -- (docs/SPECIFICATION.md §5.4). Assumes nothing.
-use Rattle.std.specs.Prelude.{ℕ, ◌≤◌, ◌<◌, ◌≡◌, refl, false, ◌&&◌, List, ◌⊎◌, ltb}
+use Rattle.std.specs.Prelude.{ℕ, ◌≤◌, ◌<◌, ◌≡◌, refl, false, ◌&&◌, List, ltb}
 use Rattle.std.proofs.Common.{sym, ◌∙◌, true≢false, ⊎_elim, arith}
 use Rattle.std.proofs.Math.Bool.{true, not}
 use Rattle.std.proofs.Math.Logic.{dite}

@@ -1,23 +1,15 @@
 -- The guarantee (docs/SPECIFICATION.md §6.2): the theorems of Statement.antt but those in Keeps.antt, Budget.antt, Arrived.antt,
 -- Tight.antt and Mixed.antt. Assumes nothing.
-use Rattle.std.specs.Prelude.{ℕ, ◌≡◌, refl, List, [], ◌∷◌, map}
+use Rattle.std.specs.Prelude.{refl, List, [], ◌∷◌}
 use Rattle.std.proofs.Common.{sym, ap, ◌∙◌}
-use Rattle.table.specs.Rows.{tasks_of}
 use Rattle.table.specs.Verdict.{Opinion, opinion_of}
 use Rattle.table.specs.Opinion.{says_of, says_one}
 use Rattle.table.proofs.TheoremsLaws as tables
-use Rattle.session.specs.declared.Session.{Session}
-use Rattle.session.specs.declared.Arrival.{Arrival}
 use Rattle.session.specs.Calls.{shown, arrive_of}
 use Rattle.session.specs.Batch.{after_all, answered_all}
-use Rattle.session.specs.Start.{fresh_of, start_of, start_fresh, start_same}
-use Rattle.guarantee.specs.Ledger.{arrive, Event, Ledger, empty, kept, ledger_from, ledger_of}
-use Rattle.guarantee.specs.Statement.{HostCall, single, batch, session_by, record_event, events_by, session_after, session_from, events_of, StartIsOpinion, NoJobLate, OneByOne, OverloadDeserved, Deterministic, DeterministicAfter}
-use Rattle.guarantee.specs.Good.{Good}
-use Rattle.guarantee.specs.KeepsFresh.{good_fresh}
-use Rattle.guarantee.specs.Keeps.{good_call, good_by, good_reached}
-use Rattle.guarantee.specs.Ties.{Tied, tied_fresh}
-use Rattle.guarantee.specs.After.{ledger_more, event_of}
+use Rattle.session.specs.Start.{fresh_of, start_fresh, start_same}
+use Rattle.guarantee.specs.Ledger.{arrive, Event}
+use Rattle.guarantee.specs.Statement.{session_after, events_of, StartIsOpinion, OneByOne, OverloadDeserved, Deterministic, DeterministicAfter}
 
 -- A START SAYS WHAT THE OPINION SAYS
 pub start_is_opinion : StartIsOpinion

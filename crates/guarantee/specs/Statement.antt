@@ -16,7 +16,7 @@ use Rattle.session.specs.declared.Answer.{Answer}
 use Rattle.session.specs.declared.Arrival.{Arrival}
 use Rattle.session.specs.declared.Outcome.{Outcome}
 use Rattle.session.specs.declared.start.Started.{Started}
-use Rattle.session.specs.Reading.{idle, job_at, tasks, waits, natural, state_of}
+use Rattle.session.specs.Reading.{job_at, tasks, waits, natural, state_of}
 use Rattle.session.specs.Sound.{sound}
 use Rattle.session.specs.Order.{arrival_of, came_before, head_of, next_due, brittle_due_lem, near, candidate, idles, candidates}
 use Rattle.session.specs.Choose.{pick_of, span_of, pick_used, used_of}

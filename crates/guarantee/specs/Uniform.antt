@@ -2,9 +2,9 @@
 -- nothing.
 -- ---- the limit, and the first word below it
 use Prim.Native.Nat.{ℕ, zero, suc, ◌+◌, ◌-◌, ◌*◌, ◌/◌, ◌%◌, ◌^◌, ◌≤◌, ◌<◌}
-use Rattle.std.specs.Prelude.{◌≡◌, refl, Bool, true, false, eqb, length}
+use Rattle.std.specs.Prelude.{◌≡◌, refl, Bool, false, eqb, length}
 use Rattle.std.proofs.Math.Path.{sym, ap}
-use Rattle.std.proofs.Common.{subst, ◌∙◌, mod-eq_of_lt, mul-le-mul_right, le-div_iff_mul-le}
+use Rattle.std.proofs.Common.{◌∙◌, mod-eq_of_lt, mul-le-mul_right, le-div_iff_mul-le}
 use mathlib.Core.List.{List, [], ◌∷◌, ◌++◌}
 use Rattle.std.proofs.Math.Logic.{dite}
 use Rattle.std.proofs.Math.Nat.{mul-add-mod_self_right, div-add-mod', pow-zero, pow-suc}
@@ -15,11 +15,9 @@ use borrow.Author.Tests.{lt-ltb, le-ltb, eq-eqb, ne_eqb}
 use Rattle.bounded.specs.Tests.{gate, gate_on, gate_off}
 use Rattle.bounded.specs.Sum.{sum_to, sum_eq, sum_add, sum_mul, sum_const, sum_zero, sum_shift, sum_eq_at}
 use Rattle.session.specs.declared.Session.{Session}
-use Rattle.session.specs.Order.{candidates, position, candidate_at}
-use Rattle.session.specs.Choose.{word_end, draw_limit, draw, draw_used, contested, drawn, pick_of, room, unopposed, length_drawn, span_of}
+use Rattle.session.specs.Choose.{word_end, draw_limit, draw, draw_used, room, unopposed, length_drawn, span_of}
 use Rattle.session.specs.Draw.{limit_le, draw_taken, draw_passed, used_taken, used_passed, word_low, word_high}
-use Rattle.guarantee.specs.Draws.{Limit, AllPassed, Taken, lists_with, OneIn, draws, Uniform, Numbered, row, last, chooses, UniformPick, lasts, UniformSpan}
-use Rattle.guarantee.specs.Exact.{numbering}
+use Rattle.guarantee.specs.Draws.{Limit, AllPassed, Taken, lists_with, OneIn, draws, Uniform, lasts, UniformSpan}
 
 pub draw_limit_lem : Limit
 unfolding draw_limit

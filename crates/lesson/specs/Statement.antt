@@ -1,5 +1,5 @@
 -- What is shown of what `contest` prints (docs/SPECIFICATION.md §13.4). Statements only.
-use Rattle.std.specs.Prelude.{ℕ, ◌+◌, ◌≤◌, ◌<◌, ◌≡◌, true, List, [], ◌∷◌, ◌++◌, length}
+use Rattle.std.specs.Prelude.{ℕ, ◌≤◌, ◌<◌, ◌≡◌, true, List, [], ◌∷◌, ◌++◌, length}
 use Rattle.edf.specs.Demand.{demand}
 use Rattle.game.specs.Game.{opening, Wins, line_to}
 use Rattle.lines.specs.Text.{line_text}

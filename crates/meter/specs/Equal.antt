@@ -6,7 +6,7 @@ use Rattle.std.proofs.Math.ListN.{get_or}
 use Rattle.bounded.specs.Sum.{sum_zero}
 use Rattle.meter.specs.declared.Shape.{Shape}
 use Rattle.meter.specs.Log.{eighths_of}
-use Rattle.meter.specs.Meter.{row_in, alike, gap_at, stretch_of, meter_of}
+use Rattle.meter.specs.Meter.{row_in, gap_at, stretch_of, meter_of}
 use Rattle.meter.specs.Rule.{measured}
 use Rattle.meter.specs.Alike.{differing_none, alike_all}
 use Rattle.meter.specs.Entropy.{EqualNone}

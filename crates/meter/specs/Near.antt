@@ -1,6 +1,6 @@
 -- How far the meter is from the exact sum of eight times the logarithm of K / c (docs/SPECIFICATION.md §10.3). Assumes nothing.
 use Rattle.std.specs.Prelude.{ℕ, ◌+◌, ◌-◌, ◌*◌, ◌^◌, ◌≤◌, ◌<◌, ◌≡◌, List}
-use Rattle.std.proofs.Common.{sym, ap, ◌∙◌, mul-le-mul_left, arith, pow-add}
+use Rattle.std.proofs.Common.{ap, ◌∙◌, mul-le-mul_left, arith, pow-add}
 use Rattle.bounded.specs.Product.{product_to, product_le, product_eq, product_mul, product_const, product_power, power_power}
 use Rattle.meter.specs.declared.Shape.{Shape}
 use Rattle.meter.specs.Log.{eighths_of, eighths_rule, eighths_mono}

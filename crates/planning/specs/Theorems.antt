@@ -9,7 +9,7 @@ use native.Mathlib.Omega.{arith}
 use Rattle.std.proofs.Math.Decide.{ℕ_discrete, dec_lt}
 use Rattle.std.proofs.Math.ListN.{length}
 use Rattle.std.proofs.Math.Seq.{get_or-set_same, get_or-set_other}
-use borrow.Author.Tests.{eq-eqb, ne_eqb, eqb-true, eqb-false, ltb-true, ltb-false}
+use borrow.Author.Tests.{eqb-true, eqb-false, ltb-true, ltb-false}
 use Rattle.bounded.specs.Tests.{both}
 use Rattle.bounded.specs.Quotient.{ceil_div, ceil_after, ceil_least}
 use Rattle.bounded.proofs.QuotientLaws.{ceil_more}
@@ -21,8 +21,8 @@ use Rattle.table.specs.Rows.{tasks_of, Fit}
 use Rattle.table.specs.Budgets.{budget_of}
 use Rattle.table.specs.Verdict.{opinion_of}
 use Rattle.table.proofs.TheoremsLaws.{first_overload_lem, shortened_later, refused_fit}
-use Rattle.planning.specs.Planning.{raised, lowered, cost_of, cut_by, cut_of}
-use Rattle.planning.specs.Statement.{TickMatters, CostExact, LeastFall, NoFall, CutExact, CutLater}
+use Rattle.planning.specs.Planning.{raised, lowered, cut_by, cut_of}
+use Rattle.planning.specs.Statement.{TickMatters, LeastFall, NoFall, CutExact, CutLater}
 
 module _ (l : List ℕ) (j c : ℕ) (known : j < (tasks_of l).rows) where
   abbrev changed : List ℕ

@@ -1,5 +1,5 @@
 -- What a sound session's tests say, as facts, and back from these to the tests (docs/SPECIFICATION.md §5.2). Assumes nothing.
-use Rattle.std.specs.Prelude.{ℕ, ◌+◌, ◌*◌, ◌/◌, ◌≤◌, ◌<◌, ◌≡◌, refl, true, not, ◌&&◌, ◌||◌, ◌⊎◌, leb, eqb}
+use Rattle.std.specs.Prelude.{ℕ, ◌+◌, ◌*◌, ◌≤◌, ◌<◌, ◌≡◌, refl, true, not, ◌&&◌, ◌||◌, ◌⊎◌, leb, eqb}
 use Rattle.std.proofs.Math.Logic.{dite}
 use Rattle.std.proofs.Common.{inl, inr, ⊎_elim, arith, leb-true, ltb-true, eqb-true, le-leb, lt-ltb, eq-eqb}
 use Rattle.std.proofs.Math.Decide.{dec_lt}

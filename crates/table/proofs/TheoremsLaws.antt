@@ -6,19 +6,17 @@ use Rattle.std.proofs.Math.Bool.{not}
 use Rattle.std.proofs.Math.Logic.{dite}
 use Rattle.std.proofs.Math.Decide.{dec_le}
 use Rattle.std.proofs.Math.Dec.{ltb}
-use borrow.Author.Tests.{leb-true, leb-false, ltb-true, ltb-false, le-ltb, not-true, not-false}
+use borrow.Author.Tests.{ltb-false, not-true, not-false}
 use Rattle.bounded.specs.Tests.{both}
 use Rattle.bounded.specs.All.{all_at, all_not}
-use Rattle.bounded.specs.Least.{least_at, least_before}
-use Rattle.bounded.specs.Fixed.{fixed_low, fixed_at, fixed_before}
-use Rattle.edf.specs.Demand.{TaskSet, Feasible, demand, request, demand_start, demand_shortened}
-use Rattle.edf.proofs.DemandLaws.{demand_due, busy_suffices, loose_suffices}
+use Rattle.bounded.specs.Least.{least_before}
+use Rattle.edf.specs.Demand.{TaskSet, demand, demand_start, demand_shortened}
+use Rattle.edf.proofs.DemandLaws.{demand_due}
 use Rattle.edf.proofs.OverloadLaws.{overload}
-use Rattle.table.specs.Rows.{horizon, tasks_of, first_broken_lem, Fit, fit_of, fit_lawful}
-use Rattle.table.specs.Budgets.{brittle, loose, loose_to, firm, firm_to, values_of, values_at, firm_row, loose_firm}
-use Rattle.table.specs.Busy.{busy_length}
-use Rattle.table.specs.Statement.{HasKind, KindMeans, EachBudget, AdmittedFits, OverloadDeserved, UnsettledMeans, FittingRefused, FirstOverload, OverloadDue, ShortenedLater}
-use Rattle.table.specs.Verdict.{Opinion, refusal, admitted, bad_length, compared_to, first_overload, overloaded, settled, heavy_kind, judged_of, opinion_of}
+use Rattle.table.specs.Rows.{tasks_of, first_broken_lem, Fit, fit_of, fit_lawful}
+use Rattle.table.specs.Budgets.{brittle, loose, loose_to, firm, firm_to, values_of, values_at, loose_firm}
+use Rattle.table.specs.Statement.{HasKind, KindMeans, EachBudget, AdmittedFits, OverloadDeserved, UnsettledMeans, FirstOverload, OverloadDue, ShortenedLater}
+use Rattle.table.specs.Verdict.{Opinion, refusal, admitted, bad_length, compared_to, first_overload, overloaded, settled, heavy_kind, opinion_of}
 use Rattle.table.specs.Opinion.{shown_of, Shows, shows_opinion, length_fit}
 use Rattle.table.specs.declared.Numbers.{Numbers}
 use Rattle.table.specs.declared.Judgement.{Judgement}

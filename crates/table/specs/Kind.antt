@@ -5,7 +5,7 @@ use Rattle.std.specs.Prelude.{ℕ, ◌≤◌, ◌<◌, ◌≡◌, refl, Bool, Li
 use Rattle.std.proofs.Common.{sym, ◌∙◌, arith}
 use Rattle.std.proofs.Math.Path.{ap}
 use Rattle.std.proofs.Math.Bool.{true, false}
-use borrow.Author.Tests.{eq-eqb, eqb-true, lt-ltb, le-ltb}
+use borrow.Author.Tests.{eqb-true, lt-ltb, le-ltb}
 use Rattle.bounded.specs.Tests.{both}
 use Rattle.edf.specs.Demand.{TaskSet}
 use Rattle.table.specs.declared.budgets.Budgets.{Budgets}
@@ -13,10 +13,9 @@ use Rattle.table.specs.declared.kind.Kind.{Kind}
 use Rattle.table.specs.declared.overload.Found.{Found}
 use Rattle.table.specs.Rows.{tasks_of, first_broken_lem, Fit}
 use Rattle.table.specs.Budgets.{marks_of, budgets_of}
-use Rattle.table.specs.Statement.{HasKind}
 use Rattle.table.specs.Overload as search
 use Rattle.table.specs.Verdict.{bad_length, heavy_kind, overloaded, settled, judged_of, opinion_of, kind_in, kind_of}
-use Rattle.table.specs.Opinion.{is_loose_lem, is_marks, heavy_kind_lem, say_fit}
+use Rattle.table.specs.Opinion.{is_loose_lem, is_marks, heavy_kind_lem}
 use Rattle.table.specs.Settle.{found, none, Settles, unsettled_by, settled_by, fits_by, over_by}
 
 abbrev pub fit_kind_lem : TaskSet → Kind

@@ -16,7 +16,7 @@ use Rattle.table.specs.declared.budgets.Budgets.{Budgets}
 use Rattle.table.specs.declared.busy.Busy.{Busy}
 use Rattle.table.specs.declared.overload.Found.{Found}
 use Rattle.table.specs.Rows.{horizon, tasks_of, first_broken_lem, Fit, fit_of}
-use Rattle.table.specs.Budgets.{loose, firm, values_of, marks_of, budgets_of}
+use Rattle.table.specs.Budgets.{loose, values_of, marks_of, budgets_of}
 use Rattle.table.specs.Busy.{busy_length, Settled}
 use Rattle.table.specs.Overload.{Searched, over, none}
 use Rattle.table.specs.First.{First}

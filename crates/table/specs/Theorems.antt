@@ -1,28 +1,21 @@
 -- What an opinion on a table means: the proofs of `Statement`, and the laws of opinions. Assumes nothing.
 -- ---- the cases of the definitions
-use Prim.Native.Nat.{ℕ, zero, suc, ◌≤◌, ◌<◌}
-use Rattle.std.specs.Prelude.{◌≡◌, refl, true, false, List, ◌⊎◌, pos, length, get_or}
-use Rattle.std.proofs.Common.{ap, ◌∙◌, inl, inr, ⊎_elim, arith}
-use Rattle.std.proofs.Math.Bool.{not}
-use Rattle.std.proofs.Math.Logic.{dite}
-use Rattle.std.proofs.Math.Decide.{dec_le}
+use Prim.Native.Nat.{ℕ, ◌≤◌, ◌<◌}
+use Rattle.std.specs.Prelude.{◌≡◌, refl, true, false}
+use Rattle.std.proofs.Common.{arith}
 use Rattle.std.proofs.Math.Dec.{ltb}
-use borrow.Author.Tests.{leb-true, leb-false, ltb-true, ltb-false, le-ltb, not-true, not-false}
+use borrow.Author.Tests.{leb-true, leb-false, ltb-true, ltb-false, le-ltb}
 use Rattle.bounded.specs.Tests.{both}
-use Rattle.bounded.specs.All.{all_at, all_not}
 use Rattle.bounded.specs.Least.{least_at, least_before}
 use Rattle.bounded.specs.Fixed.{fixed_low, fixed_at, fixed_before}
-use Rattle.edf.specs.Demand.{TaskSet, Feasible, demand, request, demand_start, demand_shortened}
-use Rattle.edf.proofs.DemandLaws.{demand_due, busy_suffices, loose_suffices}
-use Rattle.edf.proofs.OverloadLaws.{overload}
+use Rattle.edf.specs.Demand.{TaskSet, Feasible, demand, request}
+use Rattle.edf.proofs.DemandLaws.{busy_suffices, loose_suffices}
 use Rattle.table.specs.Rows.{horizon, tasks_of, first_broken_lem, Fit, fit_of, fit_lawful}
-use Rattle.table.specs.Budgets.{brittle, loose, loose_to, firm, firm_to, values_of, values_at, firm_row, loose_firm}
+use Rattle.table.specs.Budgets.{loose, firm_row, loose_firm}
 use Rattle.table.specs.Busy.{busy_length}
-use Rattle.table.specs.Statement.{HasKind, KindMeans, EachBudget, AdmittedFits, OverloadDeserved, UnsettledMeans, FittingRefused, FirstOverload, OverloadDue, ShortenedLater}
-use Rattle.table.specs.Verdict.{Opinion, refusal, admitted, bad_length, compared_to, first_overload, overloaded, settled, heavy_kind, judged_of, opinion_of}
-use Rattle.table.specs.Opinion.{shown_of, Shows, shows_opinion, length_fit}
-use Rattle.table.specs.declared.Numbers.{Numbers}
-use Rattle.table.specs.declared.Judgement.{Judgement}
+use Rattle.table.specs.Statement.{FittingRefused}
+use Rattle.table.specs.Verdict.{Opinion, refusal, admitted, compared_to, first_overload, overloaded, settled, heavy_kind, judged_of, opinion_of}
+use Rattle.table.specs.Opinion.{length_fit}
 
 -- what is known of rows that keep their rule, by the opinion on them
 pub data Judged (τ : TaskSet) : Opinion → Type 0 where

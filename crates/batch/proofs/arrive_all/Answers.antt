@@ -1,5 +1,4 @@
 use Rattle.std.proofs.Common.{length, ◌≡◌, arith}
-use borrow.Author.Rules.{rules}
 use Rattle.batch.specs.Walk.{walk_start, walk_next, walk_done}
 use Rattle.batch.proofs.arrive_all.Goals as goal
 

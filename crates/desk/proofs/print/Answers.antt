@@ -1,4 +1,3 @@
-use Rattle.std.proofs.Common.{◌-◌}
 use borrow.Author.Rules.{rules}
 use Rattle.desk.specs.Entry.{reading_laws}
 use Rattle.desk.proofs.print.Goals as goal

@@ -1,4 +1,3 @@
-use Rattle.std.proofs.Common.{◌-◌}
 use Rattle.lesson.specs.Entry.{reading_laws}
 use borrow.Author.Rules.{rules}
 use Rattle.lesson.proofs.print.Goals as goal

@@ -1,4 +1,3 @@
-use Rattle.std.proofs.Common.{◌-◌}
 use Rattle.meter.specs.Code.{alike_laws}
 use borrow.Author.Rules.{rules}
 use Rattle.meter.proofs.alike_at.Goals as goal

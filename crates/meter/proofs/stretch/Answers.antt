@@ -1,4 +1,3 @@
-use Rattle.std.proofs.Common.{◌-◌}
 use Rattle.meter.specs.Code.{summing_laws}
 use borrow.Author.Rules.{rules}
 use Rattle.meter.proofs.stretch.Goals as goal

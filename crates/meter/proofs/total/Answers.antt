@@ -1,4 +1,3 @@
-use Rattle.std.proofs.Common.{◌-◌}
 use Rattle.meter.specs.Code.{total_laws}
 use borrow.Author.Rules.{rules}
 use Rattle.meter.proofs.total.Goals as goal

@@ -1,4 +1,3 @@
-use Rattle.std.proofs.Common.{◌-◌}
 use Rattle.planning.specs.Put.{costs_laws}
 use borrow.Author.Rules.{rules}
 use Rattle.planning.proofs.put_costs.Goals as goal

@@ -1,4 +1,3 @@
-use Rattle.std.proofs.Common.{◌-◌}
 use Rattle.planning.specs.Put.{cuts_laws}
 use borrow.Author.Rules.{rules}
 use Rattle.planning.proofs.put_cuts.Goals as goal

@@ -1,4 +1,3 @@
-use Rattle.std.proofs.Common.{◌-◌}
 use Rattle.planning.specs.Put.{row_laws}
 use borrow.Author.Rules.{rules}
 use Rattle.planning.proofs.put_row_costs.Goals as goal

@@ -1,4 +1,3 @@
-use Rattle.std.proofs.Common.{◌-◌}
 use borrow.Author.Rules.{rules}
 use Rattle.report.specs.Put.{budgets_laws}
 use Rattle.report.proofs.put_budgets.Goals as goal

@@ -1,4 +1,3 @@
-use Rattle.std.proofs.Common.{◌-◌}
 use borrow.Author.Rules.{rules}
 use Rattle.session.specs.Start.{words_laws}
 use Rattle.session.proofs.copied.Goals as goal

@@ -1,4 +1,3 @@
-use Rattle.std.proofs.Common.{◌-◌}
 use borrow.Author.Rules.{rules}
 use Rattle.session.specs.Jobs.{done_start}
 use Rattle.calls.proofs.CodeLaws.{aged_next}

@@ -1,4 +1,4 @@
-use Rattle.std.proofs.Common.{arith, length, refl, sym, ◌-◌, ◌<◌, ◌≡◌}
+use Rattle.std.proofs.Common.{arith, length, refl, sym, ◌<◌, ◌≡◌}
 use Rattle.std.proofs.Math.Seq.{length-take-le}
 use borrow.Author.Rules.{rules}
 use Rattle.bounded.specs.Sum.{sum_start}

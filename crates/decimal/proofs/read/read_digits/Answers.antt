@@ -1,4 +1,3 @@
-use Rattle.std.proofs.Common.{◌-◌}
 use borrow.Author.Rules.{rules}
 use Rattle.decimal.specs.Number.{read_cases}
 use Rattle.decimal.proofs.read.read_digits.Goals as goal

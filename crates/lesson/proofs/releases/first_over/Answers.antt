@@ -1,4 +1,3 @@
-use Rattle.std.proofs.Common.{◌-◌}
 use Rattle.lesson.specs.Put.{over_laws}
 use borrow.Author.Rules.{rules}
 use Rattle.lesson.proofs.releases.first_over.Goals as goal

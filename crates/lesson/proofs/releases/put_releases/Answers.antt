@@ -1,4 +1,3 @@
-use Rattle.std.proofs.Common.{◌-◌}
 use Rattle.lesson.specs.Put.{releases_laws}
 use borrow.Author.Rules.{rules}
 use Rattle.lesson.proofs.releases.put_releases.Goals as goal

@@ -1,4 +1,3 @@
-use Rattle.std.proofs.Common.{◌-◌}
 use Rattle.lesson.specs.Put.{tick_laws}
 use borrow.Author.Rules.{rules}
 use Rattle.lesson.proofs.releases.put_tick.Goals as goal

@@ -1,4 +1,3 @@
-use Rattle.std.proofs.Common.{◌-◌}
 use borrow.Author.Rules.{rules}
 use Rattle.reader.specs.Code.{jobs_cases, jobs_next}
 use Rattle.reader.proofs.parts.read_jobs.Goals as goal

@@ -1,4 +1,3 @@
-use Rattle.std.proofs.Common.{◌-◌}
 use borrow.Author.Rules.{rules}
 use Rattle.reader.specs.Code.{digits_cases}
 use Rattle.reader.proofs.parts.read_number.Goals as goal

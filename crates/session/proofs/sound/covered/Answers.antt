@@ -1,4 +1,3 @@
-use Rattle.std.proofs.Common.{◌-◌}
 use borrow.Author.Rules.{rules}
 use Rattle.bounded.proofs.AllLaws.{all_laws}
 use Rattle.session.specs.Soundness.{affords_row}

@@ -1,4 +1,4 @@
-use Rattle.std.proofs.Common.{arith, sym, ◌-◌}
+use Rattle.std.proofs.Common.{arith, sym}
 use Rattle.std.proofs.Math.Seq.{length-take-le}
 use borrow.Author.Rules.{rules}
 use Rattle.bounded.proofs.AllLaws.{all_laws}

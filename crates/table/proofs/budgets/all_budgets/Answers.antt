@@ -1,4 +1,3 @@
-use Rattle.std.proofs.Common.{◌-◌}
 use borrow.Author.Rules.{rules}
 use Rattle.table.specs.Budgets.{budgets_laws}
 use Rattle.table.proofs.budgets.all_budgets.Goals as goal

@@ -1,4 +1,3 @@
-use Rattle.std.proofs.Common.{◌-◌}
 use borrow.Author.Rules.{rules}
 use Rattle.table.specs.Busy.{busy_laws}
 use Rattle.table.proofs.busy.busy_length.Goals as goal

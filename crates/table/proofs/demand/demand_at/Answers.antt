@@ -1,4 +1,3 @@
-use Rattle.std.proofs.Common.{◌-◌}
 use borrow.Author.Rules.{rules}
 use Rattle.edf.specs.Demand.{demand}
 use Rattle.table.specs.Bound.{total_laws}

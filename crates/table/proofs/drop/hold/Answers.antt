@@ -1,4 +1,3 @@
-use Rattle.std.proofs.Common.{◌-◌}
 use borrow.Author.Rules.{rules}
 use Rattle.table.specs.Drop.{held_laws}
 use Rattle.table.proofs.drop.hold.Goals as goal

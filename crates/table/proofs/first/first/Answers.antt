@@ -1,4 +1,3 @@
-use Rattle.std.proofs.Common.{◌-◌}
 use borrow.Author.Rules.{rules}
 use Rattle.table.specs.First.{narrow_sums, narrow_laws}
 use Rattle.table.proofs.first.first.Goals as goal

@@ -1,4 +1,3 @@
-use Rattle.std.proofs.Common.{◌-◌}
 use borrow.Author.Rules.{rules}
 use Rattle.table.specs.Inverse.{inverses_laws}
 use Rattle.table.proofs.inverse.inverses_of.Goals as goal

@@ -1,4 +1,3 @@
-use Rattle.std.proofs.Common.{◌-◌}
 use borrow.Author.Rules.{rules}
 use Rattle.table.specs.Leap.{filled_laws}
 use Rattle.table.proofs.leap.fill.Goals as goal

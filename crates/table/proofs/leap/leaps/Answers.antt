@@ -1,4 +1,3 @@
-use Rattle.std.proofs.Common.{◌-◌}
 use borrow.Author.Rules.{rules}
 use Rattle.table.specs.Leap.{further_laws}
 use Rattle.table.proofs.leap.leaps.Goals as goal

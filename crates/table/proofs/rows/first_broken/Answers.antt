@@ -1,4 +1,3 @@
-use Rattle.std.proofs.Common.{◌-◌}
 use borrow.Author.Rules.{rules}
 use Rattle.bounded.proofs.LeastLaws.{first_laws}
 use Rattle.table.specs.Rows.{first_broken_lem}

@@ -1,4 +1,3 @@
-use Rattle.std.proofs.Common.{◌-◌}
 use borrow.Author.Rules.{rules}
 use Rattle.table.specs.Settle.{rising_laws}
 use Rattle.table.proofs.settle.climb.Goals as goal

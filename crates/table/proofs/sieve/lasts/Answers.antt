@@ -1,4 +1,3 @@
-use Rattle.std.proofs.Common.{◌-◌}
 use borrow.Author.Rules.{rules}
 use Rattle.table.specs.Sieve.{lasting_next, lasting_laws}
 use Rattle.table.proofs.sieve.lasts.Goals as goal

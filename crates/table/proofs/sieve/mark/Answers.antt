@@ -1,4 +1,3 @@
-use Rattle.std.proofs.Common.{◌-◌}
 use borrow.Author.Rules.{rules}
 use Rattle.table.specs.Sieve.{marking_laws}
 use Rattle.table.proofs.sieve.mark.Goals as goal

@@ -1,4 +1,3 @@
-use Rattle.std.proofs.Common.{◌-◌}
 use borrow.Author.Rules.{rules}
 use Rattle.table.specs.Sieve.{sieving_laws}
 use Rattle.table.proofs.sieve.sieve.Goals as goal

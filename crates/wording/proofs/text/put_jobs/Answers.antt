@@ -1,4 +1,3 @@
-use Rattle.std.proofs.Common.{◌-◌}
 use borrow.Author.Rules.{rules}
 use Rattle.wording.specs.Write.{listed_laws}
 use Rattle.wording.proofs.text.put_jobs.Goals as goal
