@@ -22,7 +22,7 @@ use Rattle.workload.specs.Trial.{Trial, trial_lines, line_by_lem, line_for, give
 use Rattle.workload.specs.Loose.{count_few}
 use Rattle.workload.specs.Stands.{Stand, rows}
 use Rattle.workload.proofs.AcceptedLaws.{next_line, first_stand}
-use Rattle.workload.specs.Play.{trial_in, Went, Held, stands, Playing, x, play_rows, play_sound, play_ready, play_room, play_done, held}
+use Rattle.workload.specs.Play.{trial_in, Went, Held, stands, Playing, play_rows, play_sound, play_ready, play_room, play_done, held}
 
 pub play_start : (seed start rows left : ℕ) (s : Session) (first : List ℕ) → s ≡ session_of (table_of seed) → rows ≡ row_count seed
     → left ≡ 500 - rows → start + 65 * (trial_lines - row_count seed) ≤ length first
@@ -44,25 +44,28 @@ play_start seed start rows left s first e r l h =
 
 module _ (seed start : ℕ) (first : List ℕ) (s : Session) (p : Progress) (words out : List ℕ) (end left : ℕ)
     (now : Playing seed start first s p words out end left) where
+  abbrev x : Trial
+  x = trial_in s p words
+
   module _ (more : 0 < left) where
     module _ (y : Line) (t : Session) (r : Progress) (words' out' : List ℕ) (end' : ℕ) (is : y ≡ line_by_lem s p.number p.given)
         (w : Wrote 65 (input_line y) out out' end end') (g : Went y s t p r words words') where
-      onward_is : trial_in t r words' ≡ onward (x seed start first s p words out end left now) (line_for (x seed start first s p words out end left now))
-      onward_is = g.trial ∙ ap (onward (x seed start first s p words out end left now)) is
+      onward_is : trial_in t r words' ≡ onward x (line_for x)
+      onward_is = g.trial ∙ ap (onward x) is
 
-      owed : input_text (lines_from left (x seed start first s p words out end left now)) ≡ input_line y ++ input_text (lines_from (left - 1) (trial_in t r words'))
+      owed : input_text (lines_from left x) ≡ input_line y ++ input_text (lines_from (left - 1) (trial_in t r words'))
       unfolding input_text lines_from
       owed =
           let k : left ≡ suc (left - 1) = omega arith in
-          ap (λ (m : ℕ). input_text (lines_from m (x seed start first s p words out end left now))) k ∙ rw (is, onward_is)
+          ap (λ (m : ℕ). input_text (lines_from m x)) k ∙ rw (is, onward_is)
 
       pub play_next : Playing seed start first t r words' out' end' (left - 1)
       play_next =
           let fits : end + length (input_line y) ≤ length out = omega (arith, (play_room seed start first s p words out end left now more), w.short) in
-          let n = next_line seed (x seed start first s p words out end left now) now.done (stands now.stand) (omega (arith, now.lines)) in
+          let n = next_line seed x now.done (stands now.stand) (omega (arith, now.lines)) in
           record {
-            done = line_for (x seed start first s p words out end left now) ∷ now.done;
-            stand = subst (λ (z : Trial). Held seed z (line_for (x seed start first s p words out end left now) ∷ now.done)) (sym onward_is) (held n.stand);
+            done = line_for x ∷ now.done;
+            stand = subst (λ (z : Trial). Held seed z (line_for x ∷ now.done)) (sym onward_is) (held n.stand);
             lines = omega (arith, now.lines);
             order = g.order;
             queued = omega (arith, g.most, now.queued);

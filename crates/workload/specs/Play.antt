@@ -148,7 +148,7 @@ pub record Playing (seed start : ℕ) (first : List ℕ) (s : Session) (p : Prog
 
 module _ (seed start : ℕ) (first : List ℕ) (s : Session) (p : Progress) (words out : List ℕ) (end left : ℕ)
     (now : Playing seed start first s p words out end left) where
-  abbrev pub x : Trial
+  abbrev x : Trial
   x = trial_in s p words
 
   pub play_rows : s.count ≤ 16

@@ -35,7 +35,7 @@ use Rattle.workload.specs.Statement.{count_of}
 use Rattle.workload.specs.Loose.{count_few, table_rows, table_bounds}
 
 module _ (f : ℕ → ℕ) (b : ℕ) where
-  abbrev pub least_of : ℕ → ℕ
+  abbrev least_of : ℕ → ℕ
   least_of n = fold_to (λ m i. min m (f i)) b n
 
   least_le : (n i : ℕ) → i < n → least_of n ≤ f i
@@ -108,10 +108,10 @@ pub record Stand (seed : ℕ) (x : Trial) (done : List Line) : Type 0 where
   pub finishes : count_of 70 done ≡ 0
 
 module _ (seed : ℕ) (x : Trial) (done : List Line) (h : Stand seed x done) where
-  abbrev pub n : ℕ
+  abbrev n : ℕ
   n = row_count seed
 
-  abbrev pub s : Session
+  abbrev s : Session
   s = x.session
 
   pub rows : s.count ≡ n
@@ -134,7 +134,7 @@ module _ (seed : ℕ) (x : Trial) (done : List Line) (h : Stand seed x done) whe
 
   -- `A`: the row's earliest next arrival is now
   module _ (e : ready s ≡ true) where
-    abbrev pub k : ℕ
+    abbrev k : ℕ
     k = ready_row_lem s
 
   -- no row may arrive, and no choice is in force
@@ -197,7 +197,7 @@ module _ (seed : ℕ) (x : Trial) (done : List Line) (h : Stand seed x done) whe
 
   -- `R`: no row may arrive, and a choice is in force
   module _ (e : ready s ≡ false) (some : 1 ≤ s.span) where
-    abbrev pub m : ℕ
+    abbrev m : ℕ
     m = min s.span (until_next_lem s)
 
     -- no further than the first row's next arrival, which is 51 ticks ahead at most
