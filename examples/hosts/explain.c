@@ -4,7 +4,7 @@
  * one when idle has run for its whole span, and prints for each the text of its
  * explanation, as an operator's display would show it.
  *
- *   cc -std=c11 -I include examples/hosts/explain.c target/staticlib/libhost.a
+ *   cc -std=c11 -I include examples/hosts/explain.c crates/host/out/libhost.a
  *
  * Status 1 if something was refused that should not be, or if a choice is not the
  * one that was explained. explain.rs is the same host in Rust and prints the same.

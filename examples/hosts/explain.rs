@@ -3,7 +3,7 @@
 // whole span, and prints for each the text of its explanation, as an operator's display would show
 // it.
 //
-//   rustc --edition 2021 examples/hosts/explain.rs -L native=target/staticlib -l static=host
+//   rustc --edition 2021 examples/hosts/explain.rs -L native=crates/host/out -l static=host
 //
 // Status 1 if something was refused that should not be, or if a choice is not the one that was
 // explained. explain.c is the same host in C and prints the same.

@@ -4,7 +4,7 @@
  * earliest-deadline-first, and prints in how many ticks the two differ, and the meter of
  * both for several interval lengths.
  *
- *   cc -std=c11 -I include examples/hosts/mixed.c target/staticlib/libhost.a
+ *   cc -std=c11 -I include examples/hosts/mixed.c crates/host/out/libhost.a
  *
  * Arguments: C, T and D of each row; four rows if none are given. Every job arrives as
  * early as its row allows, from tick 0 on, and runs for C ticks, so that all hyperperiods

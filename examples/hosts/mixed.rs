@@ -2,7 +2,7 @@
 //! meter takes, once shuffled and once with no random words, which is plain earliest-deadline-first,
 //! and prints in how many ticks the two differ, and the meter of both for several interval lengths.
 //!
-//!     rustc --edition 2021 -L native=target/staticlib -l static=host examples/hosts/mixed.rs
+//!     rustc --edition 2021 -L native=crates/host/out -l static=host examples/hosts/mixed.rs
 //!
 //! Arguments: C, T and D of each row; four rows if none are given. Every job arrives as early as its
 //! row allows, from tick 0 on, and runs for C ticks, so that all hyperperiods bring the same jobs and

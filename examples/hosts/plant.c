@@ -3,7 +3,7 @@
  * prints the schedule. A tick is a millisecond. Before each shift the tasks pause,
  * and at the shift change all of them start on one tick.
  *
- *   cc -std=c11 -I include examples/hosts/plant.c target/staticlib/libhost.a
+ *   cc -std=c11 -I include examples/hosts/plant.c crates/host/out/libhost.a
  *
  * Argument: the ticks to simulate, 180,000 if none is given. Status 1 if a job
  * was late or something was refused that should not be. plant.rs is the same host

@@ -2,7 +2,7 @@
 //! schedule. A tick is a millisecond. Before each shift the tasks pause, and at the shift change all
 //! of them start on one tick.
 //!
-//!     rustc --edition 2021 -L native=target/staticlib -l static=host examples/hosts/plant.rs
+//!     rustc --edition 2021 -L native=crates/host/out -l static=host examples/hosts/plant.rs
 //!
 //! Argument: the ticks to simulate, 180,000 if none is given. Status 1 if a job was late or
 //! something was refused that should not be. plant.c is the same host in C and prints the same.
