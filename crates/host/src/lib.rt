@@ -186,7 +186,7 @@ fn telling(t: Told) -> Reply
     }
 }
 
-// A function of its own: the law in crates/lent/proofs/Buffer.antt is for bodies that are one call.
+// The session by value: `shuffle_explain` only reads the host's record.
 fn explained(s: Session, words: &[u32], out: &mut [u8]) -> Reply
     ensures { (result ≡ telling_reply (told_of s words.now (length out.old))) × (out.new ≡ buffer_of s words.now out.old) }
 {

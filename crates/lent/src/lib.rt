@@ -29,7 +29,7 @@ pub struct Opening {
     pub verdict: Verdict,
 }
 
-// A function of its own: the laws in proofs/ are for bodies that end in a call.
+// What the host sees of an outcome.
 fn seen(o: Outcome) -> Reply
     ensures { result ≡ reply_of o }
 {
