@@ -1,4 +1,4 @@
--- More laws of specs/Overload.antt: they rest on what a must-fail edit makes false. Assumes nothing.
+-- Each table whose demand exceeds some t is overloaded (docs/SPECIFICATION.md §4). Proofs only. Assumes nothing.
 use Prim.Native.Nat.{ℕ, zero, suc, ◌+◌, ◌*◌, ◌/◌, ◌%◌, ◌≤◌, ◌<◌}
 use Rattle.std.specs.Prelude.{◌≡◌, refl, false, List, [], ◌∷◌, ◌++◌, eqb, length}
 use Rattle.std.proofs.Math.Path.{ap}

@@ -1,4 +1,4 @@
--- More laws of specs/Hold.antt: they rest on what a must-fail edit makes false. Assumes nothing.
+-- Where the demand is at most t for every t up to the end, the earliest deadline first holds. Assumes nothing.
 use Rattle.std.specs.Prelude.{ℕ, zero, suc, ◌+◌, ◌-◌, ◌≤◌, ◌<◌, ◌≡◌, refl, ◌⊎◌}
 use Rattle.std.proofs.Common.{sym, inl, inr, ⊎_elim, arith}
 use Rattle.std.proofs.Math.Logic.{dite}

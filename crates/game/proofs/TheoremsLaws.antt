@@ -1,4 +1,4 @@
--- More laws of specs/Theorems.antt: they rest on what a must-fail edit makes false. Assumes nothing.
+-- The proof of Statement.antt. Assumes nothing.
 use Rattle.game.specs.Game.{opening, line_to}
 use Rattle.game.specs.Statement.{ForcedExactly, LineWins}
 use Rattle.game.specs.Force.{wins_forces}

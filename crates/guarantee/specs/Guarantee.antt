@@ -1,5 +1,5 @@
 -- The guarantee (docs/SPECIFICATION.md §6.2): the theorems of Statement.antt but those in Keeps.antt, Budget.antt, Arrived.antt,
--- Tight.antt and Mixed.antt. Assumes nothing.
+-- Tight.antt and Mixed.antt, and in proofs/, where `no_job_late` stands. Assumes nothing.
 use Rattle.std.specs.Prelude.{refl, List, [], ◌∷◌}
 use Rattle.std.proofs.Common.{sym, ap, ◌∙◌}
 use Rattle.table.specs.Verdict.{Opinion, opinion_of}

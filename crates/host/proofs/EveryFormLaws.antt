@@ -1,4 +1,4 @@
--- More laws of specs/EveryForm.antt: they rest on what a must-fail edit makes false. Assumes nothing.
+-- The theorems of Forms.antt: the form changes no answer. Assumes nothing.
 use Rattle.std.specs.Prelude.{◌≡◌, refl, List, [], ◌∷◌, map}
 use Rattle.session.specs.declared.Session.{Session}
 use Rattle.session.specs.Calls.{shown}

@@ -1,4 +1,4 @@
--- More laws of specs/Theorems.antt: they rest on what a must-fail edit makes false. Assumes nothing.
+-- The proofs of Statement.antt, of the trial. Assumes nothing.
 use Rattle.std.specs.Prelude.{◌≡◌, ℕ, zero, suc, ◌-◌, ◌/◌, ◌≤◌, min, false, ◌⊎◌, List, [], ◌∷◌, ◌++◌, length, take, ◌==◌, ◌≢◌, nat_lt, refl}
 use Rattle.std.proofs.Common.{ap, ◌∙◌, append-nil, inl, inr, ⊎_elim, arith, take_all, eq-eqb}
 use Rattle.std.proofs.Math.ListN.{length-append}
