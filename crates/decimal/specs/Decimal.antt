@@ -1,6 +1,7 @@
 -- Numbers in decimal (docs/SPECIFICATION.md §8.1). Assumes nothing.
 use Rattle.std.specs.Prelude.{ℕ, zero, suc, ◌+◌, ◌/◌, ◌*◌, ◌%◌, ◌^◌, ◌≤◌, ◌<◌, ◌≡◌, cond, List, [], ◌∷◌, ◌++◌, ltb, length}
 use Rattle.std.proofs.Common.{pow-suc, add-one, arith, length-append, ltb-true, ltb-false, lt-ltb, le-ltb}
+use Rattle.std.proofs.Math.Nat.{one-le-pow}
 use Rattle.bounded.specs.Tests.{both}
 
 -- the byte of a digit
@@ -58,6 +59,14 @@ decimal_short (suc k) n h =
     let p : n < 10 ^ (k + 1) * 10 = rw (q, pow-suc) at h in
     let s : length (decimal (n / 10)) ≤ k + 1 = decimal_short k (n / 10) (omega arith) in
     rw (decimal_large n l, length-append) (omega arith)
+
+pub decimal_long : (k n : ℕ) → 10 ^ k ≤ n → k + 1 ≤ length (decimal n)
+decimal_long zero n h = decimal_some n
+decimal_long (suc k) n h =
+    let p : 10 ^ k * 10 ≤ n = rw pow-suc at h in
+    let s : k + 1 ≤ length (decimal (n / 10)) = decimal_long k (n / 10) (omega arith) in
+    let o = one-le-pow k 10 (omega arith) in
+    rw (decimal_large n (omega arith), length-append) (omega arith)
 
 pub decimal_twenty : (n : ℕ) → n < 2 ^ 64 → length (decimal n) ≤ 20
 decimal_twenty n h = decimal_short 19 n (omega arith)

@@ -1,11 +1,9 @@
 -- Which fields are numbers: decimal u32 without leading zeros (docs/SPECIFICATION.md §8.1). Assumes nothing.
-use Rattle.std.specs.Prelude.{ℕ, ◌+◌, ◌-◌, ◌*◌, ◌≤◌, ◌<◌, ◌≡◌, refl, Bool, true, false, not, ◌&&◌, ◌||◌, cond, List, [], ◌∷◌, leb, eqb, length, get_or, drop}
+use Rattle.std.specs.Prelude.{Option, Some, None, ℕ, ◌+◌, ◌-◌, ◌*◌, ◌≤◌, ◌<◌, ◌≡◌, refl, Bool, true, false, not, ◌&&◌, ◌||◌, cond, List, [], ◌∷◌, leb, eqb, length, get_or, drop}
 use Rattle.std.proofs.Common.{sym, ◌∙◌, add-one, arith, drop_of_length-le, drop-cons}
 use Rattle.std.proofs.Math.Path.{ap}
 use Rattle.std.proofs.Math.Bool.{and-false, or-true, or-false}
 use borrow.Author.Tests.{eq-eqb, ne_eqb, le-leb, lt-leb}
-use Rattle.decimal.specs.declared.read.Number.{Number}
-use Rattle.decimal.specs.declared.read.Number.TheVariants.{Of, None}
 
 abbrev pub is_digit : ℕ → Bool
 is_digit b = leb 48 b && leb b 57
@@ -24,10 +22,10 @@ unfoldable pub plain : List ℕ → Bool
 plain l = not (eqb (length l) 0) && (not (eqb (get_or l 0 0) 48) || eqb (length l) 1)
 
 -- digits of a value that a u32 holds
-unfoldable pub digits_of : List ℕ → Number
-digits_of l = cond (all_digits l && leb (value_from 0 l) 4294967295) (Of (value_from 0 l)) None
+unfoldable pub digits_of : List ℕ → Option ℕ
+digits_of l = cond (all_digits l && leb (value_from 0 l) 4294967295) (Some (value_from 0 l)) None
 
-unfoldable pub number_of : List ℕ → Number
+unfoldable pub number_of : List ℕ → Option ℕ
 number_of l = cond (plain l) (digits_of l) None
 
 -- ---- `is_plain`
@@ -89,15 +87,14 @@ module _ (l : List ℕ) (v i : ℕ) (r : Read l v i) (h : i < length l) where
       let g : 4294967295 < value_from 0 l = omega (arith, value_next, value_grows (10 * v + (get_or l i 0 - 48)) (drop (i + 1) l)) in
       simp (lt-leb _ _ g, and-false)
 
-  pub read_next : 48 ≤ get_or l i 0 → get_or l i 0 ≤ 57 → 10 * v + (get_or l i 0 - 48) ≤ 4294967295
-      → Read l (10 * v + (get_or l i 0 - 48)) (i + 1)
-  read_next a b k = record {
+  pub read_next : (d : ℕ) → d ≡ get_or l i 0 - 48 → 48 ≤ get_or l i 0 → get_or l i 0 ≤ 57 → 10 * v + d ≤ 4294967295 → Read l (10 * v + d) (i + 1)
+  read_next d e a b k = record {
     small = k;
     digits = digits_next ∙ simp (le-leb _ _ a, le-leb _ _ b);
-    value = value_next;
+    value = rw e value_next;
   }
 
-pub read_done : (l : List ℕ) (v i : ℕ) → Read l v i → length l ≤ i → Of v ≡ digits_of l
+pub read_done : (l : List ℕ) (v i : ℕ) → Read l v i → length l ≤ i → Some v ≡ digits_of l
 unfolding digits_of all_digits value_from
 read_done l v i r h =
     let none : drop i l ≡ [] = drop_of_length-le l h in
@@ -109,7 +106,7 @@ pub ruleset read_cases = (read_start, read_low, read_high, read_great, read_next
 
 -- ---- `read_number`
 
-pub number_plain : (l : List ℕ) (b : Bool) (r : Number) → b ≡ plain l → b ≡ true → r ≡ digits_of l → r ≡ number_of l
+pub number_plain : (l : List ℕ) (b : Bool) (r : Option ℕ) → b ≡ plain l → b ≡ true → r ≡ digits_of l → r ≡ number_of l
 unfolding number_of
 number_plain l b r e t d = d ∙ sym (simp (sym e ∙ t))
 

@@ -1,5 +1,5 @@
 -- A number reads back as it was written, and a field that is a number is the one text of it. Assumes nothing.
-use Rattle.std.specs.Prelude.{ℕ, ◌+◌, ◌-◌, ◌*◌, ◌/◌, ◌%◌, ◌≤◌, ◌<◌, ◌≡◌, refl, Bool, true, false, not, ◌&&◌, cond, List, [], ◌∷◌, ◌++◌, leb, ltb, eqb, length, get_or}
+use Rattle.std.specs.Prelude.{Some, None, ℕ, ◌+◌, ◌-◌, ◌*◌, ◌/◌, ◌%◌, ◌≤◌, ◌<◌, ◌≡◌, refl, Bool, true, false, not, ◌&&◌, cond, List, [], ◌∷◌, ◌++◌, leb, ltb, eqb, length, get_or}
 use Rattle.std.proofs.Common.{sym, ap, ◌∙◌, append_assoc, append-nil, zero-add, arith, ne_eqb, le-leb, leb-true, ltb-true, ltb-false}
 use Rattle.std.proofs.Math.Bool.{or-true}
 use Rattle.std.proofs.lemmas.Bool.{false≢true, eqb-false, not-true}
@@ -7,7 +7,6 @@ use Rattle.std.proofs.Math.ListN.{get_or-append}
 use Rattle.bounded.specs.Tests.{both, and-true}
 use Rattle.decimal.specs.Decimal.{decimal, glyph, by_digits, decimal_small, decimal_large, decimal_some}
 use Rattle.decimal.specs.Number.{is_digit, all_digits, value_from, plain, digits_of, number_of, plain_none, plain_many}
-use Rattle.decimal.specs.declared.read.Number.TheVariants.{Of, None}
 
 -- ---- a digit at the end
 
@@ -54,7 +53,7 @@ plain_back n =
     let first : get_or (decimal n) 0 0 ≡ 48 → ⊥ = decimal_first n (omega (arith, ltb-false n 10 e)) in
     simp (ne_eqb _ _ some, ne_eqb _ _ first)
 
-pub read_back : (n : ℕ) → n ≤ 4294967295 → number_of (decimal n) ≡ Of n
+pub read_back : (n : ℕ) → n ≤ 4294967295 → number_of (decimal n) ≡ Some n
 unfolding number_of digits_of
 read_back n h = simp (plain_back, decimal_digits, value_back, le-leb n 4294967295 h)
 
@@ -98,12 +97,12 @@ text_back (b ∷ a ∷ l) p d =
     rw zero-add (decimal_after (a ∷ l) (b - 48) (omega arith) i.1 ∙ rw (decimal_digit b i.0))
 
 -- two tests that leave a number both passed
-chosen : (p q : Bool) (v n : ℕ) → cond p (cond q (Of v) None) None ≡ Of n → (p ≡ true) × (q ≡ true) × (v ≡ n)
+chosen : (p q : Bool) (v n : ℕ) → cond p (cond q (Some v) None) None ≡ Some n → (p ≡ true) × (q ≡ true) × (v ≡ n)
 chosen true true v n e = (refl, refl, cc)
 chosen true false v n e = let z : ◌≡◌ {A = ℕ} 0 1 = cc in absurd (omega arith)
 chosen false q v n e = let z : ◌≡◌ {A = ℕ} 0 1 = cc in absurd (omega arith)
 
-pub write_back : (l : List ℕ) (n : ℕ) → number_of l ≡ Of n → decimal n ≡ l
+pub write_back : (l : List ℕ) (n : ℕ) → number_of l ≡ Some n → decimal n ≡ l
 unfolding number_of digits_of
 write_back l n e =
     let c = chosen (plain l) (all_digits l && leb (value_from 0 l) 4294967295) (value_from 0 l) n e in
@@ -111,7 +110,7 @@ write_back l n e =
     ap decimal (sym c.2) ∙ text_back l c.0 d.0
 
 -- 32 bits hold it
-pub number_narrow : (l : List ℕ) (n : ℕ) → number_of l ≡ Of n → n ≤ 4294967295
+pub number_narrow : (l : List ℕ) (n : ℕ) → number_of l ≡ Some n → n ≤ 4294967295
 unfolding number_of digits_of
 number_narrow l n e =
     let c = chosen (plain l) (all_digits l && leb (value_from 0 l) 4294967295) (value_from 0 l) n e in

@@ -1,33 +1,20 @@
 -- A number written into a lent buffer: what the code of `src/write.rt` needs. Assumes nothing.
-use Rattle.std.specs.Prelude.{ℕ, suc, ◌+◌, ◌-◌, ◌/◌, ◌%◌, ◌^◌, ◌≤◌, ◌<◌, ◌≡◌, refl, List, [], ◌∷◌, ◌++◌, length, get_or, take, drop, set}
-use Rattle.std.proofs.Common.{sym, ap, ◌∙◌, append_assoc, append-nil, add-one, arith, length-append, length-set, take-suc, length-take-le}
+use Rattle.std.specs.Prelude.{ℕ, suc, ◌+◌, ◌-◌, ◌*◌, ◌/◌, ◌%◌, ◌^◌, ◌≤◌, ◌<◌, ◌≡◌, refl, List, [], ◌∷◌, ◌++◌, length, get_or, take, drop, set}
+use Rattle.std.proofs.Common.{pow-suc, sym, ap, ◌∙◌, append_assoc, append-nil, add-one, arith, length-append, length-set, take-suc, length-take-le}
 use Rattle.std.proofs.Math.Seq.{set-append_seam}
-use Rattle.decimal.specs.Decimal.{decimal, glyph, decimal_small, decimal_large, decimal_some, decimal_twenty}
+use Rattle.decimal.specs.Decimal.{decimal, glyph, decimal_small, decimal_large, decimal_some, decimal_long, decimal_short, decimal_twenty}
 use Rattle.decimal.specs.Buffer.{overlay, overlay_none, Wrote, wrote_length, wrote_more, wrote_within}
 
 -- ---- `digits_in`
 
--- of n's digits all but those of `rest` are counted, and one of these
-pub record Counting (n rest k : ℕ) : Type 0 where
-  pub count : length (decimal n) + 1 ≡ length (decimal rest) + k
-  pub small : length (decimal n) ≤ 20
+-- the power of ten that n reaches says how many digits it has
+pub count_some : (n k : ℕ) → 10 ^ k ≤ n → n < 10 * 10 ^ k → k + 1 ≡ length (decimal n)
+count_some n k l h = omega (arith, decimal_long k n l, decimal_short k n (rw (add-one, pow-suc) (omega arith)))
 
-pub counting_start : (n : ℕ) → n < 2 ^ 64 → Counting n n 1
-counting_start n b = record { count = refl; small = decimal_twenty n b }
+pub count_none : (n : ℕ) → n ≡ 0 → 1 ≡ length (decimal n)
+count_none n h = let e : n < 10 = omega arith in sym (ap length (decimal_small n e))
 
-module _ (n rest k : ℕ) (c : Counting n rest k) where
-  pub counting_room : 10 ≤ rest → k + 1 < 2 ^ 64
-  counting_room h = omega (arith, c.count, c.small, decimal_some rest)
-
-  pub counting_next : 10 ≤ rest → Counting n (rest / 10) (k + 1)
-  counting_next h =
-      let s = ap length (decimal_large rest h) ∙ length-append (decimal (rest / 10)) (glyph (rest % 10) ∷ []) in
-      record { count = omega (arith, c.count); small = c.small }
-
-  pub counting_done : rest < 10 → k ≡ length (decimal n)
-  counting_done h = omega (arith, c.count, ap length (decimal_small rest h))
-
-pub ruleset counting_laws = (counting_start, counting_room, counting_next, counting_done)
+pub ruleset count_cases = (count_some, count_none)
 
 -- ---- `put_digits`
 

@@ -5,8 +5,5 @@ use Rattle.decimal.proofs.write.put_number.Goals as goal
 pub put_digits-e-requires : goal.put_digits-e-requires
 put_digits-e-requires c = search (rules, written_cases)
 
-pub put_byte-requires : goal.put_byte-requires
-put_byte-requires c = search (rules, written_cases)
-
 pub returns : goal.returns
 returns c = search (rules, written_cases)
