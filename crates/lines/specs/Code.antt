@@ -1,5 +1,5 @@
 -- The cases of the code that reads lines. Assumes nothing.
-use Rattle.std.specs.Prelude.{ℕ, ◌+◌, ◌≤◌, ◌<◌, ◌≡◌, refl, false, eqb, length, get_or, take, drop}
+use Rattle.std.specs.Prelude.{Option, Some, None, ℕ, ◌+◌, ◌<◌, ◌≡◌, refl, false, eqb, length, get_or, take, drop}
 use Rattle.std.proofs.Math.Path.{sym}
 use Rattle.std.proofs.Common.{ap, ◌∙◌, arith}
 use mathlib.Core.List.{List, [], ◌∷◌}
@@ -8,13 +8,11 @@ use Rattle.std.proofs.Math.Decide.{dec_lt}
 use borrow.Author.Tests.{eq-eqb, ne_eqb, eqb-true}
 use Rattle.lines.specs.Index.{index_of, index_after}
 use Rattle.bounded.specs.Tests.{both}
-use Rattle.decimal.specs.declared.read.Number.{Number}
-use Rattle.decimal.specs.declared.read.Number.TheVariants.{Of, None}
 use Rattle.decimal.specs.Number.{is_digit, all_digits, plain, digits_of, number_of}
 use Rattle.lines.specs.declared.read.Call.TheVariants.{Arrive, Choose, Advance, Finish}
 use Rattle.lines.specs.declared.read.Line.{Line}
 use Rattle.lines.specs.declared.read.Line.TheVariants.{Row, Word, Call, Empty, Unreadable}
-use Rattle.lines.specs.Parted.{parted, on_first, parted_none, parted_some, parted_not_none, Place, parted_whole, parted_at, tail_is}
+use Rattle.lines.specs.Parted.{parted, on_first, parted_none, parted_some, parted_not_none, Found, parted_whole, parted_at, tail_is}
 use Rattle.lines.specs.Line.{letter_of, bare_of, single_of_lem, triple_of, given, given_three, line_in, line_of}
 
 -- ---- a letter
@@ -53,21 +51,21 @@ module _ (c n : ℕ) where
 
 pub ruleset single_cases = (single_word, single_arrive, single_advance, single_other)
 
-pub row_given : (a b c : Number) (x y z : ℕ) → a ≡ Of x → b ≡ Of y → c ≡ Of z → Row x y z ≡ given_three (triple_of 84) a b c
+pub row_given : (a b c : Option ℕ) (x y z : ℕ) → a ≡ Some x → b ≡ Some y → c ≡ Some z → Row x y z ≡ given_three (triple_of 84) a b c
 unfolding triple_of
 row_given a b c x y z e f g = rw (e, f, g)
 
 -- ---- numbers
 
 -- nothing readable comes of a number, whichever it is
-given_none : (f : ℕ → Line) → ((n : ℕ) → f n ≡ Unreadable) → (x : Number) → given f x ≡ Unreadable
-given_none f h (Of n) = h n
+given_none : (f : ℕ → Line) → ((n : ℕ) → f n ≡ Unreadable) → (x : Option ℕ) → given f x ≡ Unreadable
+given_none f h (Some n) = h n
 given_none f h None = refl
 
-given_three_none : (f : ℕ → ℕ → ℕ → Line) → ((x y z : ℕ) → f x y z ≡ Unreadable) → (a b c : Number) → given_three f a b c ≡ Unreadable
+given_three_none : (f : ℕ → ℕ → ℕ → Line) → ((x y z : ℕ) → f x y z ≡ Unreadable) → (a b c : Option ℕ) → given_three f a b c ≡ Unreadable
 given_three_none f h a b c = given_none _ (λ x. given_none _ (λ y. given_none _ (λ z. h x y z) c) b) a
 
-last_none : (f : ℕ → ℕ → ℕ → Line) (a b : Number) → given_three f a b None ≡ Unreadable
+last_none : (f : ℕ → ℕ → ℕ → Line) (a b : Option ℕ) → given_three f a b None ≡ Unreadable
 last_none f a b = given_none _ (λ x. given_none _ (λ y. refl) b) a
 
 -- a tab is no digit
@@ -112,8 +110,8 @@ single_line c n t =
     ∙ sym (ap (given (single_of_lem c)) (tab_number t h)))
     (λ h. ap (λ (x : List (List ℕ)). line_in ((c ∷ []) ∷ x)) (parted_none 9 t (omega arith)))
 
-module _ (c n : ℕ) (x y : Number) (e : x ≡ y) where
-  pub single_of : (r : Line) → x ≡ Of n → r ≡ single_of_lem c n → r ≡ given (single_of_lem c) y
+module _ (c n : ℕ) (x y : Option ℕ) (e : x ≡ y) where
+  pub single_of : (r : Line) → x ≡ Some n → r ≡ single_of_lem c n → r ≡ given (single_of_lem c) y
   single_of r f h = h ∙ ap (given (single_of_lem c)) (sym f ∙ e)
 
   pub single_none : x ≡ None → Unreadable ≡ given (single_of_lem c) y
@@ -136,25 +134,25 @@ row_last p q h =
     more r [] n = absurd (n refl)
     more r (s ∷ l) n = refl
 
-module _ (t : List ℕ) (e : ℕ) (h : Place 9 t e) where
-  pub row_one : length t ≤ e → Unreadable ≡ line_in ((84 ∷ []) ∷ parted 9 t)
+module _ (t : List ℕ) where
+  pub row_one : Found 9 t None → Unreadable ≡ line_in ((84 ∷ []) ∷ parted 9 t)
   unfolding single_of_lem
-  row_one k = sym (ap (λ (x : List (List ℕ)). line_in ((84 ∷ []) ∷ x)) (parted_whole 9 t e h k) ∙ given_none _ (λ n. refl) (number_of t))
+  row_one k = sym (ap (λ (x : List (List ℕ)). line_in ((84 ∷ []) ∷ x)) (parted_whole 9 t k) ∙ given_none _ (λ n. refl) (number_of t))
 
-  module _ (m : List ℕ) (f : ℕ) (k : e < length t) (i : m ≡ drop (e + 1) t) (g : Place 9 m f) where
+  module _ (e : ℕ) (h : Found 9 t (Some e)) (m : List ℕ) (i : m ≡ drop (e + 1) t) where
     row_rest : line_in ((84 ∷ []) ∷ parted 9 t) ≡ line_in ((84 ∷ []) ∷ take e t ∷ parted 9 m)
     row_rest =
-        ap (λ (x : List (List ℕ)). line_in ((84 ∷ []) ∷ x)) (parted_at 9 t e h k)
+        ap (λ (x : List (List ℕ)). line_in ((84 ∷ []) ∷ x)) (parted_at 9 t e h)
         ∙ ap (λ (x : List ℕ). line_in ((84 ∷ []) ∷ take e t ∷ parted 9 x)) (sym i)
 
-    pub row_two : length m ≤ f → Unreadable ≡ line_in ((84 ∷ []) ∷ parted 9 t)
-    row_two j = sym (row_rest ∙ ap (λ (x : List (List ℕ)). line_in ((84 ∷ []) ∷ take e t ∷ x)) (parted_whole 9 m f g j))
+    pub row_two : Found 9 m None → Unreadable ≡ line_in ((84 ∷ []) ∷ parted 9 t)
+    row_two j = sym (row_rest ∙ ap (λ (x : List (List ℕ)). line_in ((84 ∷ []) ∷ take e t ∷ x)) (parted_whole 9 m j))
 
-    pub row_three : (a b d : Number) (h : List ℕ) (r : Line) → f < length m → a ≡ number_of (take e t) → b ≡ number_of (take f m) → d ≡ number_of h
-        → h ≡ drop (f + 1) m → r ≡ given_three (triple_of 84) a b d → r ≡ line_in ((84 ∷ []) ∷ parted 9 t)
-    row_three a b d h r j ea eb ed eh er =
+    pub row_three : (f : ℕ) (a b d : Option ℕ) (h : List ℕ) (r : Line) → Found 9 m (Some f) → a ≡ number_of (take e t) → b ≡ number_of (take f m)
+        → d ≡ number_of h → h ≡ drop (f + 1) m → r ≡ given_three (triple_of 84) a b d → r ≡ line_in ((84 ∷ []) ∷ parted 9 t)
+    row_three f a b d h r g ea eb ed eh er =
         er ∙ (rw (ea, eb, ed, eh) (sym (row_last (take e t) (take f m) (drop (f + 1) m))))
-        ∙ ap (λ (x : List (List ℕ)). line_in ((84 ∷ []) ∷ take e t ∷ x)) (sym (parted_at 9 m f g j))
+        ∙ ap (λ (x : List (List ℕ)). line_in ((84 ∷ []) ∷ take e t ∷ x)) (sym (parted_at 9 m f g))
         ∙ sym row_rest
 
 pub ruleset row_cases = (row_one, row_two, row_three, tail_is)

@@ -1,7 +1,5 @@
 -- Which lines are readable, and what they say (docs/SPECIFICATION.md §8.2). Assumes nothing.
-use Rattle.std.specs.Prelude.{ℕ, cond, List, [], ◌∷◌, eqb}
-use Rattle.decimal.specs.declared.read.Number.{Number}
-use Rattle.decimal.specs.declared.read.Number.TheVariants.{Of, None}
+use Rattle.std.specs.Prelude.{Option, Some, None, ℕ, cond, List, [], ◌∷◌, eqb}
 use Rattle.decimal.specs.Number.{number_of}
 use Rattle.lines.specs.declared.read.Call.TheVariants.{Arrive, Choose, Advance, Finish}
 use Rattle.lines.specs.declared.read.Line.{Line}
@@ -27,12 +25,12 @@ unfoldable pub triple_of : ℕ → ℕ → ℕ → ℕ → Line
 triple_of c x y z = cond (eqb c 84) (Row x y z) Unreadable
 
 -- a field that is no number makes the line unreadable
-abbrev pub given : (ℕ → Line) → Number → Line
-given f (Of n) = f n
+abbrev pub given : (ℕ → Line) → Option ℕ → Line
+given f (Some n) = f n
 given f None = Unreadable
 
 -- three of them
-abbrev pub given_three : (ℕ → ℕ → ℕ → Line) → Number → Number → Number → Line
+abbrev pub given_three : (ℕ → ℕ → ℕ → Line) → Option ℕ → Option ℕ → Option ℕ → Line
 given_three f a b c = given (λ x. given (λ y. given (λ z. f x y z) c) b) a
 
 -- a line by its fields

@@ -1,5 +1,5 @@
 -- The lines of a text (docs/SPECIFICATION.md §8.2). Assumes nothing.
-use Rattle.std.specs.Prelude.{ℕ, suc, ◌+◌, ◌≤◌, ◌<◌, min, ◌≡◌, refl, eqb, take}
+use Rattle.std.specs.Prelude.{Option, Some, None, ℕ, suc, ◌+◌, ◌≤◌, ◌<◌, min, ◌≡◌, refl, eqb, take}
 use Rattle.std.proofs.Math.Path.{sym, ap}
 use Rattle.std.proofs.Common.{◌∙◌}
 use mathlib.Core.List.{List, [], ◌∷◌}
@@ -8,14 +8,12 @@ use Rattle.bounded.specs.Tests.{both}
 use Rattle.std.proofs.Math.ListN.{length, drop, length-drop}
 use Rattle.std.proofs.Math.Seq.{drop-drop, drop-length, length-take-le}
 use Rattle.lines.specs.Index.{index_of}
-use Rattle.decimal.specs.declared.read.Number.{Number}
-use Rattle.decimal.specs.declared.read.Number.TheVariants.{Of, None}
 use Rattle.decimal.specs.Number.{plain, number_of}
 use Rattle.lines.specs.declared.read.Call.TheVariants.{Arrive, Choose, Advance, Finish}
 use Rattle.lines.specs.declared.read.Line.{Line}
 use Rattle.lines.specs.declared.read.Line.TheVariants.{Row, Word, Call, Empty, Unreadable}
 use Rattle.lines.specs.declared.read.Next.{Next}
-use Rattle.lines.specs.Parted.{parted, on_first, parted_not_none, Place, parted_whole, parted_at, tail_is}
+use Rattle.lines.specs.Parted.{parted, on_first, parted_not_none, Found, found_some, found_none, parted_whole, parted_at, tail_is}
 use Rattle.lines.specs.Line.{letter_of, bare_of, single_of_lem, triple_of, given, given_three, line_in, line_of}
 
 -- the lines of a text, each without its newline and read by f: all parts but the last are ended by a newline, and bytes after the
@@ -70,23 +68,23 @@ parted_width sep (b ∷ l) =
     first [] n = absurd (n refl)
     first (p ∷ m) n = omega arith
 
-size_given : (f : ℕ → Line) (m : ℕ) → 1 ≤ m → ((n : ℕ) → least_size (f n) ≤ m) → (x : Number) → least_size (given f x) ≤ m
-size_given f m h k (Of n) = k n
+size_given : (f : ℕ → Line) (m : ℕ) → 1 ≤ m → ((n : ℕ) → least_size (f n) ≤ m) → (x : Option ℕ) → least_size (given f x) ≤ m
+size_given f m h k (Some n) = k n
 size_given f m h k None = h
 
-size_three : (f : ℕ → ℕ → ℕ → Line) (m : ℕ) → 1 ≤ m → ((x y z : ℕ) → least_size (f x y z) ≤ m) → (a b c : Number) → least_size (given_three f a b c) ≤ m
-size_three f m h k (Of x) (Of y) (Of z) = k x y z
-size_three f m h k (Of x) (Of y) None = h
-size_three f m h k (Of x) None c = h
+size_three : (f : ℕ → ℕ → ℕ → Line) (m : ℕ) → 1 ≤ m → ((x y z : ℕ) → least_size (f x y z) ≤ m) → (a b c : Option ℕ) → least_size (given_three f a b c) ≤ m
+size_three f m h k (Some x) (Some y) (Some z) = k x y z
+size_three f m h k (Some x) (Some y) None = h
+size_three f m h k (Some x) None c = h
 size_three f m h k None b c = h
 
-size_second : (f : ℕ → ℕ → ℕ → Line) (a c : Number) → least_size (given_three f a None c) ≤ 1
-size_second f (Of x) c = omega arith
+size_second : (f : ℕ → ℕ → ℕ → Line) (a c : Option ℕ) → least_size (given_three f a None c) ≤ 1
+size_second f (Some x) c = omega arith
 size_second f None c = omega arith
 
-size_third : (f : ℕ → ℕ → ℕ → Line) (a b : Number) → least_size (given_three f a b None) ≤ 1
-size_third f (Of x) (Of y) = omega arith
-size_third f (Of x) None = omega arith
+size_third : (f : ℕ → ℕ → ℕ → Line) (a b : Option ℕ) → least_size (given_three f a b None) ≤ 1
+size_third f (Some x) (Some y) = omega arith
+size_third f (Some x) None = omega arith
 size_third f None b = omega arith
 
 size_bare : (c : ℕ) → least_size (bare_of c) ≤ 2
@@ -167,54 +165,53 @@ module _ {L : Type 0} (f : List ℕ → L) (u : L) where
   left_some [] h = absurd (omega arith)
   left_some (b ∷ l) h = refl
 
-  -- the line that begins at a place of l; e is where the newline is, from there on
-  module _ (l rest : List ℕ) (at e : ℕ) (h : at < length l) (i : rest ≡ drop at l) (p : Place 10 rest e) where
-    pub next_left : length rest ≤ e → lines_by f u (drop at l) ≡ u ∷ lines_by f u (drop (length l) l)
+  -- the line that begins at a place of l
+  module _ (l rest : List ℕ) (at : ℕ) (h : at < length l) (i : rest ≡ drop at l) where
+    pub next_left : Found 10 rest None → lines_by f u (drop at l) ≡ u ∷ lines_by f u (drop (length l) l)
     unfolding lines_by
     next_left k =
         ap (lines_by f u) (sym i)
-        ∙ ap (lines_in f u) (parted_whole 10 rest e p k)
+        ∙ ap (lines_in f u) (parted_whole 10 rest k)
         ∙ left_some rest (omega (arith, ap length i, length-drop at l))
         ∙ sym (ap (λ (x : List L). u ∷ x) (lines_none l))
 
-    pub next_line : e < length rest → lines_by f u (drop at l) ≡ f (take e rest) ∷ lines_by f u (drop (at + e + 1) l)
-    unfolding lines_by
-    next_line k =
-        let past : at + (e + 1) ≡ at + e + 1 = omega arith in
-        ap (lines_by f u) (sym i)
-        ∙ ap (lines_in f u) (parted_at 10 rest e p k)
-        ∙ lines_cons (take e rest) _ (parted_not_none 10 _)
-        ∙ ap (λ (z : List ℕ). f (take e rest) ∷ lines_by f u z) (ap (drop (e + 1)) i ∙ drop-drop (e + 1) at l ∙ ap (λ (n : ℕ). drop n l) past)
+    -- e is where the newline is, from there on
+    module _ (e : ℕ) (p : Found 10 rest (Some e)) where
+      pub next_line : lines_by f u (drop at l) ≡ f (take e rest) ∷ lines_by f u (drop (at + e + 1) l)
+      unfolding lines_by
+      next_line =
+          let past : at + (e + 1) ≡ at + e + 1 = omega arith in
+          ap (lines_by f u) (sym i)
+          ∙ ap (lines_in f u) (parted_at 10 rest e p)
+          ∙ lines_cons (take e rest) _ (parted_not_none 10 _)
+          ∙ ap (λ (z : List ℕ). f (take e rest) ∷ lines_by f u z) (ap (drop (e + 1)) i ∙ drop-drop (e + 1) at l ∙ ap (λ (n : ℕ). drop n l) past)
 
-    pub next_within : e < length rest → at + e + 1 ≤ length l
-    next_within k = omega (arith, ap length i, length-drop at l)
+      pub next_within : at + e + 1 ≤ length l
+      next_within = omega (arith, (found_some 10 rest e p).within, ap length i, length-drop at l)
 
 pub lines_end : (l : List ℕ) → lines_of (drop (length l) l) ≡ []
 unfolding lines_of
 lines_end l = lines_none line_of Unreadable l
 
-module _ (l rest : List ℕ) (at e : ℕ) (h : at < length l) (i : rest ≡ drop at l) (p : Place 10 rest e) where
-  newline : e ≡ index_of 10 (drop at l)
-  newline = p.is ∙ ap (index_of 10) i
-
-  pub took_left : length rest ≤ e → Took l at (record { line = Unreadable; at = length l })
+module _ (l rest : List ℕ) (at : ℕ) (h : at < length l) (i : rest ≡ drop at l) where
+  pub took_left : Found 10 rest None → Took l at (record { line = Unreadable; at = length l })
   unfolding lines_of
   took_left k = record {
-    lines = next_left line_of Unreadable l rest at e h i p k;
-    past = omega (arith, newline, ap length i, length-drop at l);
+    lines = next_left line_of Unreadable l rest at h i k;
+    past = omega (arith, found_none 10 rest k, ap (index_of 10) i, ap length i, length-drop at l);
     within = omega arith;
     size = omega arith;
     some = λ n h. absurd (omega arith);
   }
 
-  pub took_line : (x : Line) → e < length rest → x ≡ line_of (take e rest) → Took l at (record { line = x; at = at + e + 1 })
+  pub took_line : (x : Line) (e : ℕ) → Found 10 rest (Some e) → x ≡ line_of (take e rest) → Took l at (record { line = x; at = at + e + 1 })
   unfolding lines_of
-  took_line x k g = record {
-    lines = rw g (next_line line_of Unreadable l rest at e h i p k);
-    past = omega (arith, newline, ap length i, length-drop at l);
-    within = next_within line_of Unreadable l rest at e h i p k;
-    size = rw g (omega (arith, line_size (take e rest), length-take-le e rest (omega arith)));
-    some = λ n h. omega (arith, line_some (take e rest) (λ z. n (g ∙ z)), length-take-le e rest (omega arith));
-  }
-
-pub ruleset took_cases = (took_left, took_line, tail_is)
+  took_line x e p g =
+      let q = found_some 10 rest e p in
+      record {
+        lines = rw g (next_line line_of Unreadable l rest at h i e p);
+        past = omega (arith, q.is, q.within, ap (index_of 10) i, ap length i, length-drop at l);
+        within = next_within line_of Unreadable l rest at h i e p;
+        size = rw g (omega (arith, line_size (take e rest), length-take-le e rest (omega (arith, q.within))));
+        some = λ n h. omega (arith, line_some (take e rest) (λ z. n (g ∙ z)), length-take-le e rest (omega (arith, q.within)));
+      }

@@ -13,7 +13,7 @@ fn put_bare(out: &mut [u8], at: usize, letter: u8) -> usize
     ensures { Wrote 2 (bare_text letter) out.old out.new at result }
 {
     let e = put_byte(out, at, letter);
-    put_byte(out, e, 10)
+    put_byte(out, e, b'\n')
 }
 
 fn put_single(out: &mut [u8], at: usize, letter: u8, n: u32) -> usize
@@ -21,7 +21,7 @@ fn put_single(out: &mut [u8], at: usize, letter: u8, n: u32) -> usize
     ensures { Wrote 23 (single_text letter n) out.old out.new at result }
 {
     let e = put_letter(out, at, letter);
-    put_number(out, e, n as u64, 10)
+    put_number(out, e, n as u64, b'\n')
 }
 
 fn put_call(out: &mut [u8], at: usize, c: Call) -> usize
@@ -29,10 +29,10 @@ fn put_call(out: &mut [u8], at: usize, c: Call) -> usize
     ensures { Wrote 23 (call_text c) out.old out.new at result }
 {
     match c {
-        Call::Arrive(row) => put_single(out, at, 65, row),
-        Call::Choose => put_bare(out, at, 71),
-        Call::Advance(n) => put_single(out, at, 82, n),
-        Call::Finish => put_bare(out, at, 70),
+        Call::Arrive(row) => put_single(out, at, b'A', row),
+        Call::Choose => put_bare(out, at, b'G'),
+        Call::Advance(n) => put_single(out, at, b'R', n),
+        Call::Finish => put_bare(out, at, b'F'),
     }
 }
 
@@ -40,10 +40,10 @@ fn put_row(out: &mut [u8], at: usize, run: u32, period: u32, deadline: u32) -> u
     requires { at + 65 ≤ length out.old }
     ensures { Wrote 65 (row_text run period deadline) out.old out.new at result }
 {
-    let e = put_letter(out, at, 84);
-    let f = put_number(out, e, run as u64, 9);
-    let g = put_number(out, f, period as u64, 9);
-    put_number(out, g, deadline as u64, 10)
+    let e = put_letter(out, at, b'T');
+    let f = put_number(out, e, run as u64, b'\t');
+    let g = put_number(out, f, period as u64, b'\t');
+    put_number(out, g, deadline as u64, b'\n')
 }
 
 // Internal: the caller has seen to the room for the longest line.
@@ -57,9 +57,9 @@ pub fn put_input(out: &mut [u8], at: usize, line: Line) -> usize
             period,
             deadline,
         } => put_row(out, at, run, period, deadline),
-        Line::Word(w) => put_single(out, at, 87, w),
+        Line::Word(w) => put_single(out, at, b'W', w),
         Line::Call(c) => put_call(out, at, c),
-        Line::Empty => put_byte(out, at, 10),
-        Line::Unreadable => put_bare(out, at, 63),
+        Line::Empty => put_byte(out, at, b'\n'),
+        Line::Unreadable => put_bare(out, at, b'?'),
     }
 }

@@ -3,5 +3,4 @@
 
 pub mod input;
 pub mod read;
-pub mod scan;
 pub mod write;

@@ -1,11 +1,11 @@
 // A line of the input: which ones are readable, and what they say.
-ghost use Rattle.std.specs.Prelude.{◌≡◌, [], ◌∷◌, ◌<◌, length};
+ghost use Rattle.std.specs.Prelude.{IfSome, ◌≡◌, [], ◌∷◌, ◌<◌, length};
 ghost use Rattle.decimal.specs.Number.{number_of};
-ghost use Rattle.lines.specs.Parted.{parted, Place};
+ghost use Rattle.lines.specs.Parted.{parted, Found};
 ghost use Rattle.lines.specs.Line.{bare_of, single_of_lem, triple_of, given, given_three, line_in, line_of};
 ghost use Rattle.lines.specs.Lines.{Took};
 
-use decimal::read::{Number, read_number};
+use decimal::read::read_number;
 
 #[derive(Clone, Copy)]
 pub enum Call {
@@ -35,50 +35,42 @@ pub enum Line {
     Unreadable,
 }
 
-// The first place of b in s; the length of s where there is none.
-pub fn place(s: &[u8], b: u8) -> usize
-    ensures { Place b s.now result }
+// The first place of b in s.
+pub fn place(s: &[u8], b: u8) -> Option<usize>
+    ensures first { Found b s.now result }
+    ensures within { IfSome result (λ i. i < length s.now) }
 {
-    crate::scan::find(s, 0, s.len(), b)
+    s.iter().position(|&x| x == b)
 }
 
+#[tactic(auto, using(crate::specs::Code::bare_cases))]
 fn bare(c: u8) -> Line
     ensures { result ≡ bare_of c }
 {
-    if c == 71 {
-        return Line::Call(Call::Choose);
+    match c {
+        b'G' => Line::Call(Call::Choose),
+        b'F' => Line::Call(Call::Finish),
+        _ => Line::Unreadable,
     }
-    if c == 70 {
-        return Line::Call(Call::Finish);
-    }
-    Line::Unreadable
 }
 
+#[tactic(auto, using(crate::specs::Code::single_cases))]
 fn single(c: u8, n: u32) -> Line
     ensures { result ≡ single_of_lem c n }
 {
-    if c == 87 {
-        return Line::Word(n);
+    match c {
+        b'W' => Line::Word(n),
+        b'A' => Line::Call(Call::Arrive(n)),
+        b'R' => Line::Call(Call::Advance(n)),
+        _ => Line::Unreadable,
     }
-    if c == 65 {
-        return Line::Call(Call::Arrive(n));
-    }
-    if c == 82 {
-        return Line::Call(Call::Advance(n));
-    }
-    Line::Unreadable
 }
 
-fn row(a: Number, b: Number, c: Number) -> Line
+#[tactic(auto, using(crate::specs::Code::row_given))]
+fn row(a: Option<u32>, b: Option<u32>, c: Option<u32>) -> Line
     ensures { result ≡ given_three (triple_of 84) a b c }
 {
-    let Number::Of(run) = a else {
-        return Line::Unreadable;
-    };
-    let Number::Of(period) = b else {
-        return Line::Unreadable;
-    };
-    let Number::Of(deadline) = c else {
+    let (Some(run), Some(period), Some(deadline)) = (a, b, c) else {
         return Line::Unreadable;
     };
     Line::Row {
@@ -89,18 +81,17 @@ fn row(a: Number, b: Number, c: Number) -> Line
 }
 
 // What follows the letter `T` and a tab.
+#[tactic(auto, using(crate::specs::Code::row_cases))]
 fn read_row(rest: &[u8]) -> Line
     ensures { result ≡ line_in ((84 ∷ []) ∷ parted 9 rest.now) }
 {
-    let e = place(rest, 9);
-    if rest.len() <= e {
+    let Some(e) = place(rest, b'\t') else {
         return Line::Unreadable;
-    }
+    };
     let more = &rest[e + 1..];
-    let f = place(more, 9);
-    if more.len() <= f {
+    let Some(f) = place(more, b'\t') else {
         return Line::Unreadable;
-    }
+    };
     let a = read_number(&rest[..e]);
     let b = read_number(&more[..f]);
     let c = read_number(&more[f + 1..]);
@@ -108,17 +99,18 @@ fn read_row(rest: &[u8]) -> Line
 }
 
 // What follows another letter and a tab.
+#[tactic(auto, using(crate::specs::Code::number_cases))]
 fn read_single(c: u8, rest: &[u8]) -> Line
     ensures { result ≡ given (single_of_lem c) (number_of rest.now) }
 {
-    let number = read_number(rest);
-    match number {
-        Number::Of(n) => single(c, n),
-        Number::None => Line::Unreadable,
+    match read_number(rest) {
+        Some(n) => single(c, n),
+        None => Line::Unreadable,
     }
 }
 
 // A line without its newline.
+#[tactic(auto, using(crate::specs::Code::line_cases))]
 pub fn read_line(line: &[u8]) -> Line
     ensures { result ≡ line_of line.now }
 {
@@ -129,14 +121,14 @@ pub fn read_line(line: &[u8]) -> Line
     if line.len() == 1 {
         return bare(c);
     }
-    if c == 9 {
+    if c == b'\t' {
         return Line::Unreadable;
     }
-    if line[1] != 9 {
+    if line[1] != b'\t' {
         return Line::Unreadable;
     }
     let rest = &line[2..];
-    if c == 84 {
+    if c == b'T' {
         return read_row(rest);
     }
     read_single(c, rest)
@@ -156,13 +148,12 @@ pub fn next_line(text: &[u8], at: usize) -> Next
     ensures { Took text.now at result }
 {
     let rest = &text[at..];
-    let e = place(rest, 10);
-    if rest.len() <= e {
+    let Some(e) = place(rest, b'\n') else {
         return Next {
             line: Line::Unreadable,
             at: text.len(),
         };
-    }
+    };
     let line = read_line(&rest[..e]);
     Next {
         line,

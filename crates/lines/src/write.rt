@@ -12,7 +12,7 @@ pub fn put_letter(out: &mut [u8], at: usize, letter: u8) -> usize
     ensures { Wrote 2 (letter ∷ 9 ∷ []) out.old out.new at result }
 {
     let e = put_byte(out, at, letter);
-    put_byte(out, e, 9)
+    put_byte(out, e, b'\t')
 }
 
 // A line up to its second value, which may be signed. Internal: the caller has seen to the room for the longest.
@@ -20,10 +20,10 @@ pub fn put_head(out: &mut [u8], at: usize, clock: u64, letter: u8, number: u64, 
     requires { at + 65 ≤ length out.old }
     ensures { Wrote 65 (head_text clock letter number first) out.old out.new at result }
 {
-    let e = put_number(out, at, clock, 9);
+    let e = put_number(out, at, clock, b'\t');
     let f = put_letter(out, e, letter);
-    let g = put_number(out, f, number, 9);
-    put_number(out, g, first, 9)
+    let g = put_number(out, f, number, b'\t');
+    put_number(out, g, first, b'\t')
 }
 
 // Internal: the caller has seen to the room for the longest line.
@@ -40,5 +40,5 @@ pub fn put_line(
     ensures { Wrote 86 (line_text clock letter number first second) out.old out.new at result }
 {
     let e = put_head(out, at, clock, letter, number, first);
-    put_number(out, e, second, 10)
+    put_number(out, e, second, b'\n')
 }
