@@ -1,7 +1,5 @@
 -- Which lines `contest` reads, and what they say (docs/SPECIFICATION.md §13.4). Definitions only. Assumes nothing.
-use Rattle.std.specs.Prelude.{ℕ, Bool, ◌&&◌, cond, List, eqb, get_or, drop}
-use Rattle.decimal.specs.declared.read.Number.{Number}
-use Rattle.decimal.specs.declared.read.Number.TheVariants.{Of, None}
+use Rattle.std.specs.Prelude.{Option, Some, None, ℕ, Bool, ◌&&◌, cond, List, eqb, get_or, drop}
 use Rattle.decimal.specs.Number.{number_of}
 use Rattle.lines.specs.declared.read.Line.{Line}
 use Rattle.lines.specs.declared.read.Line.TheVariants.{Word, Call, Empty}
@@ -12,8 +10,8 @@ use Rattle.lesson.specs.declared.item.Item.{Item}
 use Rattle.lesson.specs.declared.item.Item.TheVariants.{Row, Ask, Unreadable}
 
 -- `N`, a tab and a number ask
-abbrev pub asked : Number → Item
-asked (Of n) = Ask n
+abbrev pub asked : Option ℕ → Item
+asked (Some n) = Ask n
 asked None = Unreadable
 
 -- of the lines that `shuffle` reads, a row has a meaning here

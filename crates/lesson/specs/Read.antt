@@ -1,5 +1,5 @@
 -- The code that reads a line. Assumes nothing.
-use Rattle.std.specs.Prelude.{ℕ, ◌+◌, ◌≤◌, ◌<◌, ◌≡◌, eqb, take, drop, get_or}
+use Rattle.std.specs.Prelude.{Option, Some, None, ℕ, ◌+◌, ◌≤◌, ◌<◌, ◌≡◌, eqb, take, drop, get_or}
 use Rattle.std.proofs.Math.Path.{refl, sym}
 use Rattle.std.proofs.Common.{ap, ◌∙◌}
 use Rattle.std.proofs.Math.Bool.{and-false}
@@ -7,14 +7,12 @@ use mathlib.Core.List.{List, [], ◌∷◌}
 use native.Mathlib.Omega.{arith}
 use Rattle.std.proofs.Math.ListN.{length}
 use borrow.Author.Tests.{eq-eqb, ne_eqb}
-use Rattle.decimal.specs.declared.read.Number.{Number}
-use Rattle.decimal.specs.declared.read.Number.TheVariants.{Of, None}
 use Rattle.decimal.specs.Number.{number_of}
 use Rattle.lines.specs.declared.read.Call.{Call as CallKind}
 use Rattle.lines.specs.declared.read.Line.{Line}
 use Rattle.lines.specs.declared.read.Line.TheVariants.{Word, Call, Empty}
 use Rattle.lines.specs.declared.read.Line.TheVariants as line
-use Rattle.lines.specs.Parted.{Place, tail_is}
+use Rattle.lines.specs.Parted.{Found, tail_is}
 use Rattle.lines.specs.Line.{line_of}
 use Rattle.lines.specs.Lines.{next_left, next_line, next_within}
 use Rattle.lesson.specs.declared.item.Item.{Item}
@@ -30,8 +28,8 @@ pub record Took (l : List ℕ) (at : ℕ) (r : Next) : Type 0 where
 
 -- ---- `read_ask`
 
-module _ (l : List ℕ) (x : Number) (is : x ≡ number_of l) where
-  pub ask_number : (n : ℕ) → x ≡ Of n → Ask n ≡ asked (number_of l)
+module _ (l : List ℕ) (x : Option ℕ) (is : x ≡ number_of l) where
+  pub ask_number : (n : ℕ) → x ≡ Some n → Ask n ≡ asked (number_of l)
   ask_number n e = ap asked (sym e ∙ is)
 
   pub ask_none : x ≡ None → Unreadable ≡ asked (number_of l)
@@ -87,17 +85,15 @@ pub ruleset item_cases = (item_short, item_letter, item_tab, item_ask, tail_is)
 
 -- ---- `next_item`
 
-module _ (l rest : List ℕ) (at e : ℕ) (h : at < length l) (i : rest ≡ drop at l) (p : Place 10 rest e) where
-  pub took_left : length rest ≤ e → Took l at (record { item = Unreadable; at = length l })
+module _ (l rest : List ℕ) (at : ℕ) (h : at < length l) (i : rest ≡ drop at l) where
+  pub took_left : Found 10 rest None → Took l at (record { item = Unreadable; at = length l })
   unfolding items_of
-  took_left k = record { items = next_left item_of Unreadable l rest at e h i p k; later = h; within = omega arith }
+  took_left k = record { items = next_left item_of Unreadable l rest at h i k; later = h; within = omega arith }
 
-  pub took_line : (x : Item) → e < length rest → x ≡ item_of (take e rest) → Took l at (record { item = x; at = at + e + 1 })
+  pub took_line : (x : Item) (e : ℕ) → Found 10 rest (Some e) → x ≡ item_of (take e rest) → Took l at (record { item = x; at = at + e + 1 })
   unfolding items_of
-  took_line x k g = record {
-    items = rw g (next_line item_of Unreadable l rest at e h i p k);
+  took_line x e p g = record {
+    items = rw g (next_line item_of Unreadable l rest at h i e p);
     later = omega arith;
-    within = next_within item_of Unreadable l rest at e h i p k;
+    within = next_within item_of Unreadable l rest at h i e p;
   }
-
-pub ruleset took_cases = (took_left, took_line, tail_is)

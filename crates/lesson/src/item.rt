@@ -5,7 +5,7 @@ ghost use Rattle.lines.specs.Line.{line_of};
 ghost use Rattle.lesson.specs.Item.{asked, row_of, item_of};
 ghost use Rattle.lesson.specs.Read.{Took};
 
-use decimal::read::{Number, read_number};
+use decimal::read::read_number;
 use lines::read::{Line, place, read_line};
 
 #[derive(Clone, Copy)]
@@ -22,22 +22,22 @@ pub enum Item {
 }
 
 // What follows the letter `N` and a tab.
+#[tactic(auto, using(crate::specs::Read::ask_cases))]
 fn read_ask(rest: &[u8]) -> Item
     ensures { result ≡ asked (number_of rest.now) }
 {
-    let number = read_number(rest);
-    match number {
-        Number::Of(n) => Item::Ask(n),
-        Number::None => Item::Unreadable,
+    match read_number(rest) {
+        Some(n) => Item::Ask(n),
+        None => Item::Unreadable,
     }
 }
 
 // Another line is read as `shuffle` reads it; of those only a row has a meaning here.
+#[tactic(auto, using(crate::specs::Read::other_cases))]
 fn read_other(line: &[u8]) -> Item
     ensures { result ≡ row_of (line_of line.now) }
 {
-    let x = read_line(line);
-    match x {
+    match read_line(line) {
         Line::Row {
             run,
             period,
@@ -47,24 +47,16 @@ fn read_other(line: &[u8]) -> Item
             period,
             deadline,
         },
-        Line::Word(_) => Item::Unreadable,
-        Line::Call(_) => Item::Unreadable,
-        Line::Empty => Item::Unreadable,
-        Line::Unreadable => Item::Unreadable,
+        Line::Word(_) | Line::Call(_) | Line::Empty | Line::Unreadable => Item::Unreadable,
     }
 }
 
 // A line without its newline.
+#[tactic(auto, using(crate::specs::Read::item_cases))]
 fn read_item(line: &[u8]) -> Item
     ensures { result ≡ item_of line.now }
 {
-    if line.len() < 2 {
-        return read_other(line);
-    }
-    if line[0] != 78 {
-        return read_other(line);
-    }
-    if line[1] != 9 {
+    if line.len() < 2 || line[0] != b'N' || line[1] != b'\t' {
         return read_other(line);
     }
     read_ask(&line[2..])
@@ -79,18 +71,19 @@ pub struct Next {
 
 // The line that begins at a place of the text. Bytes after the last newline are one more line, and unreadable. Internal: the loop
 // over the lines has tested that the place is within the text.
+// `lines::read::next_line` is the same with another reader: one function with the reader as a parameter would need clauses about
+// it that are longer than both bodies, and be no plainer.
 pub fn next_item(text: &[u8], at: usize) -> Next
     requires { at < length text.now }
     ensures { Took text.now at result }
 {
     let rest = &text[at..];
-    let e = place(rest, 10);
-    if rest.len() <= e {
+    let Some(e) = place(rest, b'\n') else {
         return Next {
             item: Item::Unreadable,
             at: text.len(),
         };
-    }
+    };
     let item = read_item(&rest[..e]);
     Next {
         item,

@@ -3,8 +3,6 @@ use Rattle.std.specs.Prelude.{◌≡◌, ℕ, ◌+◌, ◌-◌, ◌*◌, ◌<◌
 use Rattle.std.proofs.Common.{sym, ap, ◌∙◌, arith}
 use Rattle.std.proofs.Math.Logic.{dite}
 use Rattle.std.proofs.Math.Decide.{dec_lt}
-use Rattle.decimal.specs.declared.read.Number.{Number}
-use Rattle.decimal.specs.declared.read.Number.TheVariants.{Of, None}
 use Rattle.decimal.specs.Buffer.{Wrote, wrote_none, wrote_more, wrote_within, wrote_length}
 use Rattle.lines.specs.Input.{input_text, text_append}
 use Rattle.report.specs.Rows.{row_lines}

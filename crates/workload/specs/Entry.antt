@@ -1,10 +1,8 @@
 -- The code of the whole trial, and the entry points. Assumes nothing.
-use Rattle.std.specs.Prelude.{◌≡◌, ℕ, ◌+◌, ◌-◌, ◌*◌, ◌<◌, ◌≤◌, List, length, take, refl}
+use Rattle.std.specs.Prelude.{Option, Some, None, ◌≡◌, ℕ, ◌+◌, ◌-◌, ◌*◌, ◌<◌, ◌≤◌, List, length, take, refl}
 use Rattle.std.proofs.Common.{sym, ap, ◌∙◌, arith}
 use Rattle.std.proofs.Math.Logic.{dite}
 use Rattle.std.proofs.Math.Decide.{dec_lt}
-use Rattle.decimal.specs.declared.read.Number.{Number}
-use Rattle.decimal.specs.declared.read.Number.TheVariants.{Of, None}
 use Rattle.decimal.specs.Buffer.{Wrote, wrote_none, wrote_more, wrote_within, wrote_length}
 use Rattle.lines.specs.Input.{input_text, text_append}
 use Rattle.report.specs.Rows.{row_lines}
@@ -57,12 +55,12 @@ generate_done seed before after r h w = printed h w
 
 pub ruleset generate_cases = (generate_short, generate_done)
 
-pub load_seed : (input before after : List ℕ) (n : Number) (seed r : ℕ) → n ≡ seed_of input → n ≡ Of seed → Filled trial_room (text_of seed) before after r
+pub load_seed : (input before after : List ℕ) (n : Option ℕ) (seed r : ℕ) → n ≡ seed_of input → n ≡ Some seed → Filled trial_room (text_of seed) before after r
     → Filled trial_room (load_of input) before after r
 unfolding load_of
 load_seed input before after n seed r e f w = rw (sym e ∙ f) w
 
-pub load_none : (input before : List ℕ) (n : Number) → n ≡ seed_of input → n ≡ None → Filled trial_room (load_of input) before before 0
+pub load_none : (input before : List ℕ) (n : Option ℕ) → n ≡ seed_of input → n ≡ None → Filled trial_room (load_of input) before before 0
 unfolding load_of
 load_none input before n e f =
     rw (sym e ∙ f) (dite (dec_lt (length before) trial_room) (λ l. too_short l refl refl) (λ l. printed (omega arith) (wrote_none trial_room before 0)))

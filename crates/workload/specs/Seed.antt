@@ -1,17 +1,15 @@
 -- The seed in an input: the code that reads it, and the proofs of Statement.antt of the program. Assumes nothing.
-use Rattle.std.specs.Prelude.{◌≡◌, ℕ, ◌+◌, ◌<◌, ◌≤◌, ◌⊎◌, List, [], ◌∷◌, ◌++◌, length, take, drop, ◌==◌, ◌≢◌, refl}
+use Rattle.std.specs.Prelude.{Option, Some, None, ◌≡◌, ℕ, ◌+◌, ◌<◌, ◌≤◌, ◌⊎◌, List, [], ◌∷◌, ◌++◌, length, take, drop, ◌==◌, ◌≢◌, refl}
 use Rattle.std.proofs.Math.Path.{sym, ap}
 use Rattle.std.proofs.Common.{subst, ◌∙◌, inl, inr, ⊎_elim, arith, length-append, length-take, drop_of_length-le, take_all, eqb-true}
 use Rattle.std.proofs.Math.Logic.{dite}
 use Rattle.std.proofs.Math.Decide.{dec_le}
 use Rattle.std.proofs.Math.ListN.{length-drop}
 use Rattle.bounded.specs.Tests.{both}
-use Rattle.decimal.specs.declared.read.Number.{Number}
-use Rattle.decimal.specs.declared.read.Number.TheVariants.{Of, None}
 use Rattle.decimal.specs.Decimal.{decimal, decimal_short}
 use Rattle.decimal.specs.Number.{number_of}
 use Rattle.decimal.specs.RoundTrip.{read_back, write_back, number_narrow}
-use Rattle.lines.specs.Parted.{parted, on_first, parted_not_none, Place, parted_whole, parted_at}
+use Rattle.lines.specs.Parted.{parted, on_first, parted_not_none, Found, parted_whole, parted_at}
 use Rattle.lines.specs.Input.{number_without, parted_end}
 use Rattle.workload.specs.Trial.{seed_in, seed_of}
 use Rattle.workload.specs.Statement.{SeedRead, OnlySeeds, TwelveDecide}
@@ -34,20 +32,21 @@ rest_none p (b ∷ l) h =
     more (q ∷ []) = refl
     more (q ∷ r ∷ m) = refl
 
-module _ (input : List ℕ) (e : ℕ) (h : Place 10 input e) where
-  pub seed_unended : length input ≤ e → None ≡ seed_of input
+module _ (input : List ℕ) where
+  pub seed_unended : Found 10 input None → None ≡ seed_of input
   unfolding seed_of
-  seed_unended l = sym (ap seed_in (parted_whole 10 input e h l))
+  seed_unended l = sym (ap seed_in (parted_whole 10 input l))
 
-  pub seed_more : e + 1 < length input → None ≡ seed_of input
-  unfolding seed_of
-  seed_more l =
-      sym (ap seed_in (parted_at 10 input e h (omega arith)) ∙ rest_none (take e input) (drop (e + 1) input) (omega (arith, length-drop (e + 1) input)))
+  module _ (e : ℕ) (h : Found 10 input (Some e)) where
+    pub seed_more : e + 1 < length input → None ≡ seed_of input
+    unfolding seed_of
+    seed_more l =
+        sym (ap seed_in (parted_at 10 input e h) ∙ rest_none (take e input) (drop (e + 1) input) (omega (arith, length-drop (e + 1) input)))
 
-  pub seed_one : (r : Number) → e < length input → length input ≤ e + 1 → r ≡ number_of (take e input) → r ≡ seed_of input
-  unfolding seed_of parted
-  seed_one r k l f =
-      f ∙ sym (ap seed_in (parted_at 10 input e h k) ∙ ap (λ (m : List ℕ). seed_in (take e input ∷ parted 10 m)) (drop_of_length-le input l))
+    pub seed_one : (r : Option ℕ) → length input ≤ e + 1 → r ≡ number_of (take e input) → r ≡ seed_of input
+    unfolding seed_of parted
+    seed_one r l f =
+        f ∙ sym (ap seed_in (parted_at 10 input e h) ∙ ap (λ (m : List ℕ). seed_in (take e input ∷ parted 10 m)) (drop_of_length-le input l))
 
 pub ruleset seed_cases = (seed_unended, seed_more, seed_one)
 
@@ -84,10 +83,10 @@ pub only_seeds : OnlySeeds
 unfolding seed_of
 only_seeds input seed e = subst (λ (l : List ℕ). (l ≡ decimal seed ++ 10 ∷ []) × (seed ≤ 4294967295)) (parted_joined input) (by (parted 10 input) e)
   where
-    none : None ≡ Of seed → ⊥
+    none : None ≡ Some seed → ⊥
     none f = let z : ◌≡◌ {A = ℕ} 0 1 = cc in omega arith
 
-    by : (m : List (List ℕ)) → seed_in m ≡ Of seed → (joined m ≡ decimal seed ++ 10 ∷ []) × (seed ≤ 4294967295)
+    by : (m : List (List ℕ)) → seed_in m ≡ Some seed → (joined m ≡ decimal seed ++ 10 ∷ []) × (seed ≤ 4294967295)
     by [] f = absurd (none f)
     by (p ∷ []) f = absurd (none f)
     by (p ∷ [] ∷ []) f = (ap (λ (t : List ℕ). t ++ 10 ∷ []) (sym (write_back p seed f)), number_narrow p seed f)
@@ -96,13 +95,13 @@ only_seeds input seed e = subst (λ (l : List ℕ). (l ≡ decimal seed ++ 10 �
 
 -- ---- the first 12 bytes decide
 
-seed_short : (input : List ℕ) (seed : ℕ) → seed_of input ≡ Of seed → length input ≤ 11
+seed_short : (input : List ℕ) (seed : ℕ) → seed_of input ≡ Some seed → length input ≤ 11
 seed_short input seed e =
     let p = only_seeds input seed e in
     omega (arith, ap length p.0, length-append (decimal seed) (10 ∷ []), decimal_short 9 seed (omega (arith, p.1)))
 
-number_or : (r : Number) → (r ≡ None) ⊎ ((n : ℕ) × (r ≡ Of n))
-number_or (Of n) = inr (n, refl)
+number_or : (r : Option ℕ) → (r ≡ None) ⊎ ((n : ℕ) × (r ≡ Some n))
+number_or (Some n) = inr (n, refl)
 number_or None = inl refl
 
 pub twelve_decide : TwelveDecide
@@ -112,4 +111,4 @@ twelve_decide input k h =
   where
     none : (t : List ℕ) → 12 ≤ length t → seed_of t ≡ None
     none t g =
-        ⊎_elim (λ e. e) (λ (p : (n : ℕ) × (seed_of t ≡ Of n)). absurd (omega (arith, seed_short t p.0 p.1))) (number_or (seed_of t))
+        ⊎_elim (λ e. e) (λ (p : (n : ℕ) × (seed_of t ≡ Some n)). absurd (omega (arith, seed_short t p.0 p.1))) (number_or (seed_of t))

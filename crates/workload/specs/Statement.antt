@@ -1,9 +1,8 @@
 -- What holds of the trial of every seed, as text (docs/WORKLOAD.md, docs/SPECIFICATION.md §12). `lines_of` and `output_of` are what
 -- `shuffle` reads and prints by its contract. Statements only.
-use Rattle.std.specs.Prelude.{◌≡◌, ℕ, ◌+◌, ◌≤◌, List, [], ◌∷◌, ◌++◌, length, take, ◌==◌}
+use Rattle.std.specs.Prelude.{Some, ◌≡◌, ℕ, ◌+◌, ◌≤◌, List, [], ◌∷◌, ◌++◌, length, take, ◌==◌}
 use Rattle.bounded.specs.Tests.{gate}
 use Rattle.edf.specs.Demand.{demand}
-use Rattle.decimal.specs.declared.read.Number.TheVariants.{Of}
 use Rattle.decimal.specs.Decimal.{decimal}
 use Rattle.lines.specs.declared.read.Line.{Line}
 use Rattle.lines.specs.declared.read.Line.TheVariants.{Row, Word, Call, Empty, Unreadable}
@@ -108,10 +107,10 @@ NoneRefused = (seed : ℕ) → Unrefused (parted 10 (output_of (text_of seed)))
 -- ---- the program: A SEED IS ITS DIGITS AND A NEWLINE, AND NOTHING ELSE IS ONE
 
 abbrev pub SeedRead : Type 0
-SeedRead = (seed : ℕ) → seed ≤ 4294967295 → seed_of (decimal seed ++ 10 ∷ []) ≡ Of seed
+SeedRead = (seed : ℕ) → seed ≤ 4294967295 → seed_of (decimal seed ++ 10 ∷ []) ≡ Some seed
 
 abbrev pub OnlySeeds : Type 0
-OnlySeeds = (input : List ℕ) (seed : ℕ) → seed_of input ≡ Of seed → (input ≡ decimal seed ++ 10 ∷ []) × (seed ≤ 4294967295)
+OnlySeeds = (input : List ℕ) (seed : ℕ) → seed_of input ≡ Some seed → (input ≡ decimal seed ++ 10 ∷ []) × (seed ≤ 4294967295)
 
 -- the first 12 bytes of an input decide
 abbrev pub TwelveDecide : Type 0

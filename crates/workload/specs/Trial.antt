@@ -1,9 +1,7 @@
 -- The trial of a seed, line by line and as text, and what `load` prints (docs/WORKLOAD.md). Definitions only. Assumes nothing.
-use Rattle.std.specs.Prelude.{ℕ, zero, suc, ◌-◌, min, Bool, true, false, cond, List, [], ◌∷◌, ◌++◌, nat_le, nat_lt}
+use Rattle.std.specs.Prelude.{Option, Some, None, ℕ, zero, suc, ◌-◌, min, Bool, true, false, cond, List, [], ◌∷◌, ◌++◌, nat_le, nat_lt}
 use Rattle.bounded.specs.Fold.{fold_to}
 use Rattle.bounded.specs.Least.{least_from}
-use Rattle.decimal.specs.declared.read.Number.{Number}
-use Rattle.decimal.specs.declared.read.Number.TheVariants.{Of, None}
 use Rattle.decimal.specs.Number.{number_of}
 use Rattle.lines.specs.declared.read.Call.{Call as CallOf}
 use Rattle.lines.specs.declared.read.Call.TheVariants.{Arrive, Choose, Advance, Finish}
@@ -113,19 +111,19 @@ trial_room = 32500
 -- ---- the program
 
 -- the seed, by the parts before, between and after newlines: one line, and nothing after it
-abbrev pub seed_in : List (List ℕ) → Number
+abbrev pub seed_in : List (List ℕ) → Option ℕ
 seed_in [] = None
 seed_in (p ∷ []) = None
 seed_in (p ∷ [] ∷ []) = number_of p
 seed_in (p ∷ (b ∷ q) ∷ []) = None
 seed_in (p ∷ q ∷ r ∷ l) = None
 
-unfoldable pub seed_of : List ℕ → Number
+unfoldable pub seed_of : List ℕ → Option ℕ
 seed_of input = seed_in (parted 10 input)
 
 -- nothing where there is no seed
-abbrev pub printed_for : Number → List ℕ
-printed_for (Of seed) = text_of seed
+abbrev pub printed_for : Option ℕ → List ℕ
+printed_for (Some seed) = text_of seed
 printed_for None = []
 
 -- what `load` prints

@@ -6,7 +6,6 @@ ghost use Rattle.decimal.specs.Buffer.{Wrote};
 ghost use Rattle.report.specs.Whole.{Filled};
 ghost use Rattle.workload.specs.Trial.{trial_room, text_of, load_of};
 
-use decimal::read::Number;
 use session::Session;
 
 mod line;
@@ -46,9 +45,8 @@ pub fn generate(seed: u32, out: &mut [u8]) -> usize
 pub fn load(input: &[u8], out: &mut [u8]) -> usize
     ensures { Filled trial_room (load_of input.now) out.old out.new result }
 {
-    let number = seed::read_seed(input);
-    match number {
-        Number::Of(seed) => generate(seed, out),
-        Number::None => 0,
+    match seed::read_seed(input) {
+        Some(seed) => generate(seed, out),
+        None => 0,
     }
 }

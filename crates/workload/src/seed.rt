@@ -2,18 +2,16 @@
 ghost use Rattle.std.specs.Prelude.{◌≡◌};
 ghost use Rattle.workload.specs.Trial.{seed_of};
 
-use decimal::read::{Number, read_number};
+use decimal::read::read_number;
 use lines::read::place;
 
-pub fn read_seed(input: &[u8]) -> Number
+#[tactic(auto, using(crate::specs::Seed::seed_cases))]
+pub fn read_seed(input: &[u8]) -> Option<u32>
     ensures { result ≡ seed_of input.now }
 {
-    let e = place(input, 10);
-    if input.len() <= e {
-        return Number::None;
-    }
+    let e = place(input, b'\n')?;
     if e + 1 < input.len() {
-        return Number::None;
+        return None;
     }
     read_number(&input[..e])
 }

@@ -1,14 +1,9 @@
-use Rattle.std.proofs.Common.{arith, sym}
-use Rattle.std.proofs.Math.Seq.{length-take-le}
-use Rattle.lesson.specs.Read.{took_cases}
-use borrow.Author.Rules.{rules}
+use Rattle.lines.specs.Parted.{tail_is}
+use Rattle.lesson.specs.Read.{took_left, took_line}
 use Rattle.lesson.proofs.item.next_item.Goals as goal
 
-pub returns-then-rest-e : goal.returns-then-rest-e
-returns-then-rest-e c = search (rules, took_cases)
-
-pub slice_bounds-read_item-end : goal.slice_bounds-read_item-end
-slice_bounds-read_item-end c = sym (length-take-le _ _ (omega arith))
+pub returns-in_default : goal.returns-in_default
+returns-in_default c = took_left _ _ _ c.requires (tail_is c.args.text.now c.args.at) c.in_default.ensures.first
 
 pub returns : goal.returns
-returns c = search (rules, took_cases)
+returns c = took_line _ _ _ c.requires (tail_is c.args.text.now c.args.at) _ _ c.in-Some.ensures.first c.read_item-item.ensures
