@@ -1,5 +1,5 @@
 -- The cases of the code of src/parts.rt. Assumes nothing.
-use Rattle.std.specs.Prelude.{ℕ, zero, suc, ◌+◌, ◌-◌, ◌*◌, ◌≤◌, ◌<◌, ◌^◌, ◌≡◌, false, length, get_or, drop, set, replicate}
+use Rattle.std.specs.Prelude.{ℕ, zero, suc, ◌+◌, ◌-◌, ◌*◌, ◌≤◌, ◌<◌, ◌^◌, ◌≡◌, false, length, get_or, drop, set, replicate, None, Some}
 use Rattle.std.proofs.Math.Path.{refl, sym, ap}
 use Rattle.std.proofs.Common.{◌∙◌, add-zero, add-one, arith, drop-drop, drop-cons, get_or-drop}
 use Rattle.std.proofs.Math.Bool.{true, and-false}
@@ -10,7 +10,6 @@ use Rattle.std.proofs.Math.Seq.{drop-length}
 use borrow.Author.Tests.{eq-eqb, ne_eqb, le-leb, lt-leb}
 use Rattle.decimal.specs.Number.{is_digit, value_from}
 use Rattle.wording.specs.declared.Held.{Held}
-use Rattle.wording.specs.declared.Optional.TheVariants.{None, Of}
 use Rattle.wording.specs.declared.Cause.{Cause}
 use Rattle.wording.specs.declared.Cause.TheVariants.{Remaining, Word, NoWord, Nothing}
 use Rattle.wording.specs.Explanation.{laid, no_held, parts_of}
@@ -191,9 +190,9 @@ pub ruleset jobs_cases = (jobs_start, jobs_next, jobs_done)
 
 module _ (l t : List ℕ) (b : ℕ) where
   pub brittle_yes : (d : FoundNumber) (e : ℕ) → b ≡ get_or t 0 0 → b ≡ 66 → Took (number_at (drop 17 t)) l d.value d.at
-      → drop e l ≡ drop 53 (drop d.at l) → Took (brittle_at t) l (Of d.value) e
+      → drop e l ≡ drop 53 (drop d.at l) → Took (brittle_at t) l (Some d.value) e
   unfolding brittle_at brittle_in number_at
-  brittle_yes d e g y r q = simp (← g, eq-eqb b 66 y) (record { part = ap Of r.part; rest = q ∙ rw r.rest })
+  brittle_yes d e g y r q = simp (← g, eq-eqb b 66 y) (record { part = ap Some r.part; rest = q ∙ rw r.rest })
 
   pub brittle_no : (at : ℕ) → b ≡ get_or (drop at l) 0 0 → (b ≡ 66 → ⊥) → Took (brittle_at (drop at l)) l None at
   unfolding brittle_at brittle_in
@@ -209,9 +208,9 @@ module _ (l t : List ℕ) (b : ℕ) where
   chosen_row_lem c g n r = simp (← g, ne_eqb b 105 n) (record { part = r.part; rest = r.rest })
 
   pub decided_yes : (w : FoundNumber) (e : ℕ) → b ≡ get_or t 2 0 → b ≡ 98 → Took (number_at (drop 10 t)) l w.value w.at
-      → drop e l ≡ drop 2 (drop w.at l) → Took (decided_at t) l (Of w.value) e
+      → drop e l ≡ drop 2 (drop w.at l) → Took (decided_at t) l (Some w.value) e
   unfolding decided_at decided_in number_at
-  decided_yes w e g y r q = simp (← g, eq-eqb b 98 y) (record { part = ap Of r.part; rest = q ∙ rw r.rest })
+  decided_yes w e g y r q = simp (← g, eq-eqb b 98 y) (record { part = ap Some r.part; rest = q ∙ rw r.rest })
 
   pub decided_no : (e : ℕ) → b ≡ get_or t 2 0 → (b ≡ 98 → ⊥) → drop e l ≡ drop 19 t → Took (decided_at t) l None e
   unfolding decided_at decided_in
