@@ -1,5 +1,5 @@
 -- The text of an explanation written into a lent buffer: what the code of `src/text.rt` needs. Assumes nothing.
-use Rattle.std.specs.Prelude.{ℕ, ◌+◌, ◌*◌, ◌≤◌, ◌<◌, ◌≡◌, refl, Bool, List, [], ◌∷◌, ◌++◌, length, take, get_or, None, Option, Some}
+use Rattle.std.specs.Prelude.{ℕ, ◌+◌, ◌*◌, ◌≤◌, ◌<◌, ◌≡◌, refl, List, [], ◌∷◌, ◌++◌, length, take, get_or, None, Option, Some}
 use Rattle.std.proofs.Common.{sym, ap, ◌∙◌, append_assoc, append-nil, add-one, arith, take-suc, eq-eqb, ne_eqb}
 use Rattle.std.proofs.Math.Seq.{take-length}
 use Rattle.decimal.specs.Decimal.{decimal, decimal_in}
@@ -9,7 +9,7 @@ use Rattle.wording.specs.declared.Cause.{Cause}
 use Rattle.wording.specs.Explanation.{Explanation, no_held}
 use Rattle.wording.specs.Phrases as p
 use Rattle.wording.specs.Text.{job_text, jobs_text, brittle_text, chosen_text, decided_text, cause_text, text_of}
-use Rattle.wording.specs.Pieces.{rest, value_text, budget_text, candidate_text, count_text, waiting_text, choice_text, span_text, candidate_colon, candidate_short, decided_comma, cause_colon, cause_short, job_pieces, text_pieces}
+use Rattle.wording.specs.Pieces.{rest, value_text, budget_text, candidate_text, count_text, waiting_text, choice_text, span_text, decided_comma, cause_colon, job_pieces, text_pieces}
 
 -- ---- one piece after another
 
@@ -39,12 +39,6 @@ module _ (n at q : ℕ) (d e : List ℕ) where
   budget_some ne w = simp (ne_eqb n 0 ne, append-nil) (wrote_within 21 26 _ d e at q (omega arith) w)
 
 pub ruleset budget_cases = (budget_none, budget_some)
-
--- ---- `put_candidate`
-
-pub candidate_is : (b k : Bool) (d e : List ℕ) (at q : ℕ) → b ≡ k → Wrote (length (rest (candidate_text k))) (rest (candidate_text k)) d e at q
-    → Wrote 18 (rest (candidate_text b)) d e at q
-candidate_is b k d e at q s w = rw s (wrote_within _ 18 _ d e at q (omega (arith, candidate_short k, ap length (candidate_colon k))) w)
 
 -- ---- `put_job`
 
@@ -143,15 +137,11 @@ pub ruleset chosen_cases = (chosen_idle_lem, chosen_row_lem)
 
 -- ---- `put_decided`
 
-module _ (o : Option ℕ) (d e : List ℕ) (at q : ℕ) where
-  pub decided_none : o ≡ None → Wrote 18 (rest p.no_word) d e at q → Wrote 31 (rest (decided_text o)) d e at q
-  decided_none s w = rw s (wrote_within 18 31 _ d e at q (omega arith) w)
-
-  pub decided_some : (n : ℕ) (f : List ℕ) (r : ℕ) → at + 31 ≤ length d → o ≡ Some n → Wrote 30 (value_text (rest p.by_word) n 46) d e at q
-      → Wrote 1 (10 ∷ []) e f q r → Wrote 31 (rest (decided_text o)) d f at r
-  decided_some n f r room s v w = rw s (wrote_as (omega arith) (simp append_assoc) (wrote_then (omega arith) v w))
-
-pub ruleset decided_cases = (decided_none, decided_some)
+pub decided_some : (o : Option ℕ) (n : ℕ) (d e f : List ℕ) (at q r : ℕ) → at + 31 ≤ length d → o ≡ Some n
+    → Wrote 30 (value_text (rest p.by_word) n 46) d e at q
+    → Wrote 1 (10 ∷ []) e f q r
+    → Wrote 31 (rest (decided_text o)) d f at r
+decided_some o n d e f at q r room s v w = rw s (wrote_as (omega arith) (simp append_assoc) (wrote_then (omega arith) v w))
 
 -- ---- `put_choice`
 
@@ -159,12 +149,6 @@ pub choice_is : (c : ℕ) (o : Option ℕ) (d e f : List ℕ) (at q r : ℕ) →
     → Wrote 31 (rest (decided_text o)) e f q r → Wrote 64 (choice_text c o) d f at r
 choice_is c o d e f at q r room v w =
     wrote_as (omega arith) (rw append_assoc (ap (λ (l : List ℕ). chosen_text c ++ l) (decided_comma o))) (wrote_then (omega arith) v w)
-
--- ---- `put_cause`
-
-pub cause_is : (c k : Cause) (d e : List ℕ) (at q : ℕ) → c ≡ k → Wrote (length (rest (cause_text k))) (rest (cause_text k)) d e at q
-    → Wrote 39 (rest (cause_text c)) d e at q
-cause_is c k d e at q s w = rw s (wrote_within _ 39 _ d e at q (omega (arith, cause_short k, ap length (cause_colon k))) w)
 
 -- ---- `put_span`
 
