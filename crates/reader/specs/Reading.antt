@@ -4,9 +4,9 @@ use Rattle.decimal.specs.Number.{is_digit, value_from}
 use Rattle.wording.specs.declared.Held.{Held}
 use Rattle.wording.specs.declared.Cause.{Cause}
 use Rattle.wording.specs.declared.Cause.TheVariants.{Remaining, Word, NoWord, Nothing}
-use Rattle.wording.specs.Explanation.{Explanation, parts_of, no_parts}
+use Rattle.wording.specs.declared.Parts.{Parts}
+use Rattle.wording.specs.Explanation.{Explanation, parts_of}
 use Rattle.wording.specs.Text.{text_of}
-use Rattle.reader.specs.declared.Reading.{Reading}
 
 -- ---- as if the bytes were a text: a number is the digits in front, a phrase is skipped by its length, and one byte tells
 -- which phrase follows
@@ -129,10 +129,6 @@ same (a ∷ l) (b ∷ m) = eqb a b && same l m
 unfoldable pub is_text : List ℕ → Bool
 is_text l = fits (explanation_in l) && same (text_of (explanation_in l)) l
 
--- ---- what a reader answers
-
-abbrev pub not_found_lem : Reading
-not_found_lem = record { found = false; parts = no_parts }
-
-unfoldable pub reading_of : List ℕ → Reading
-reading_of l = cond (is_text l) (record { found = true; parts = parts_of (explanation_in l) }) not_found_lem
+-- what a reader answers: the parts, or none where the bytes are no text
+unfoldable pub reading_of : List ℕ → Option Parts
+reading_of l = cond (is_text l) (Some (parts_of (explanation_in l))) None

@@ -7,7 +7,7 @@ loop-i-init c = search (rules, jobs_cases)
 
 pub loop-i-preserved : goal.loop-i-preserved
 loop-i-preserved c =
-    (search rules, jobs_next _ _ _ _ _ _ _ (search rules) c.loop-i.invariant.1 c.read_job-f.ensures)
+    jobs_next _ _ _ _ _ _ _ (search rules) c.loop-i.invariant c.read_job-job.ensures
 
 pub returns : goal.returns
 returns c = search (rules, jobs_cases)

@@ -8,9 +8,6 @@ loop-i-init c = search (rules, digits_cases)
 pub returns-then-b-lt48 : goal.returns-then-b-lt48
 returns-then-b-lt48 c = search (rules, digits_cases)
 
-pub returns-then-b-gt57 : goal.returns-then-b-gt57
-returns-then-b-gt57 c = search (rules, digits_cases)
-
 pub loop-i-preserved : goal.loop-i-preserved
 loop-i-preserved c = search (rules, digits_cases)
 
