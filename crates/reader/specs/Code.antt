@@ -1,14 +1,13 @@
 -- The cases of the code of src/parts.rt. Assumes nothing.
-use Rattle.std.specs.Prelude.{ℕ, zero, suc, ◌+◌, ◌-◌, ◌*◌, ◌≤◌, ◌<◌, ◌^◌, min, ◌≡◌, false, length, get_or, drop, set, Bool, None, Option, Some}
+use Rattle.std.specs.Prelude.{ℕ, zero, suc, ◌+◌, ◌-◌, ◌*◌, ◌≤◌, ◌<◌, ◌^◌, ◌≡◌, false, length, get_or, drop, set, Bool, None, Option, Some}
 use Rattle.std.proofs.Math.Path.{refl, sym, ap}
-use Rattle.std.proofs.Common.{◌∙◌, add-zero, add-one, arith, drop-drop, drop-cons, get_or-drop}
+use Rattle.std.proofs.Common.{◌∙◌, add-one, arith, drop-cons}
 use Rattle.std.proofs.Math.Bool.{true, and-false}
 use mathlib.Core.List.{List, [], ◌∷◌, ◌++◌, map, map-append}
 use Rattle.std.proofs.lemmas.List.{length-map}
 use Rattle.std.proofs.Math.ListN.{drop_of_length-le}
 use Rattle.std.proofs.Math.Seq.{drop-length}
-use Rattle.std.proofs.Math.Logic.{◌⊎◌, dite, ⊎_elim}
-use Rattle.std.proofs.Math.Decide.{dec_le}
+use Rattle.std.proofs.Math.Logic.{◌⊎◌, ⊎_elim}
 use borrow.Author.Tests.{eq-eqb, ne_eqb, le-leb, lt-leb}
 use Rattle.decimal.specs.Number.{is_digit, value_from}
 use Rattle.wording.specs.declared.Held.{Held}
@@ -21,26 +20,6 @@ use Rattle.reader.specs.declared.parts.Found.{Found}
 use Rattle.reader.specs.Reading.{digits, after_digits, number_in, Part, past_holds_lem, candidate_in, job_in, jobs_in, brittle_in, chosen_in, decided_in, cause_in, explanation_from}
 use Rattle.reader.specs.Fitted.{cut, cut_job, cut_all}
 use Rattle.reader.specs.Took.{Took, number_at, job_at, jobs_at, brittle_at, chosen_at, decided_at}
-
--- ---- places
-
-module _ (l : List ℕ) (at n : ℕ) where
-  nothing_left : length l ≤ at + n → drop n (drop at l) ≡ []
-  nothing_left h = rw drop-drop (drop_of_length-le l h)
-
-  -- a slice has no more places than a u64 can number
-  pub skip_is : length l < 2 ^ 64 → drop (min (min (at + n) (2 ^ 64 - 1)) (length l)) l ≡ drop n (drop at l)
-  skip_is f =
-      dite (dec_le (at + n) (length l))
-      (λ h. let q : min (min (at + n) (2 ^ 64 - 1)) (length l) ≡ at + n = omega arith in rw q (sym (drop-drop n at l)))
-      (λ h. let q : min (min (at + n) (2 ^ 64 - 1)) (length l) ≡ length l = omega arith in rw q (drop-length l ∙ sym (nothing_left (omega arith))))
-
-  module _ (e : ℕ) (q : drop e l ≡ drop n (drop at l)) where
-    pub byte_on : get_or l e 0 ≡ get_or (drop at l) n 0
-    byte_on =
-        let a : get_or (drop e l) 0 0 ≡ get_or l e 0 = rw add-zero at (get_or-drop e l 0 0) in
-        let b : get_or (drop n (drop at l)) 0 0 ≡ get_or (drop at l) n 0 = rw add-zero at (get_or-drop n (drop at l) 0 0) in
-        sym a ∙ ap (λ (t : List ℕ). get_or t 0 0) q ∙ b
 
 -- ---- a number
 
@@ -57,9 +36,6 @@ cut_first v [] = omega arith
 cut_first v (b ∷ l) =
     let e : cut (10 * cut v + (b - 48)) ≡ cut (10 * v + (b - 48)) = omega arith in
     sym (cut_first (10 * cut v + (b - 48)) l) ∙ ap (λ (n : ℕ). cut (value_from n l)) e ∙ cut_first (10 * v + (b - 48)) l
-
-pub digits_start : (l : List ℕ) (at : ℕ) → Digits l at 0 at
-digits_start l at = record { small = omega arith; value = refl; rest = refl }
 
 module _ (l : List ℕ) (at v i : ℕ) (r : Digits l at v i) where
   -- no digit stands in front any more
@@ -96,11 +72,7 @@ module _ (l : List ℕ) (at v i : ℕ) (r : Digits l at v i) where
           rest = simp (next, y) at r.rest;
         }
 
-pub ruleset digits_cases = (digits_start, digits_done, digits_end, digits_next)
-
-pub number_is : (l : List ℕ) (at n e : ℕ) (r : Found ℕ) → drop e l ≡ drop n (drop at l) → Took (number_at (drop e l)) l r.value r.at
-    → Took (number_at (drop n (drop at l))) l r.value r.at
-number_is l at n e r q t = rw q at t
+pub ruleset digits_cases = (digits_done, digits_end, digits_next)
 
 -- ---- the end of a job's line
 
@@ -170,11 +142,6 @@ jobs_next l t i e next js j h r q =
       part = rw r.part (s ∙ simp (q.part, r.rest, map-append));
       rest = q.rest ∙ rw r.rest;
     })
-
-pub jobs_done : (l t : List ℕ) (i n e : ℕ) (js : List Held) → i ≤ n → n ≤ i → Took (jobs_at i t) l js e → Took (jobs_at n t) l js e
-jobs_done l t i n e js a b r = let q : i ≡ n = omega arith in rw q at r
-
-pub ruleset jobs_cases = (jobs_start, jobs_next, jobs_done)
 
 -- ---- the other parts
 

@@ -84,7 +84,10 @@ fn read_candidate(text: &[u8], at: usize) -> Found<bool>
         return Found { value: true, at: e };
     }
     let e = skip(text, at, 19);
-    Found { value: false, at: e }
+    Found {
+        value: false,
+        at: e,
+    }
 }
 
 fn read_job(text: &[u8], at: usize) -> Found<Held>
