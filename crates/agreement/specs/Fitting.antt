@@ -1,5 +1,5 @@
 -- Every number of an explanation has 64 bits. Assumes nothing.
-use Rattle.std.specs.Prelude.{ℕ, ◌+◌, ◌*◌, ◌^◌, ◌≤◌, ◌<◌, ◌≡◌, true, not, ◌&&◌, List, eqb, length, drop, None, Some}
+use Rattle.std.specs.Prelude.{ℕ, ◌+◌, ◌*◌, ◌^◌, ◌≤◌, ◌<◌, ◌≡◌, true, not, ◌&&◌, List, eqb, length, drop, None, Option, Some, is_some, unwrap_or}
 use Rattle.std.proofs.Math.Path.{sym, ap}
 use Rattle.std.proofs.Common.{◌∙◌, arith}
 use Rattle.std.proofs.lemmas.Bool.{false≢true}
@@ -25,7 +25,7 @@ use Rattle.wording.specs.Explanation.{FitsJob}
 use Rattle.explain.specs.Explain.{held_of, brittle_of, explanation_of}
 use Rattle.explain.specs.Account.{waiting_few, held_length, held_at}
 use Rattle.agreement.specs.Statement.{ExplanationFits}
-use Rattle.agreement.specs.Words.{number_of, given, decided_drawn, taken_small}
+use Rattle.agreement.specs.Words.{decided_drawn, taken_small}
 
 module _ (s : Session) (f : Facts s) where
   -- a waiting job's deadline and budget
@@ -81,11 +81,11 @@ module _ (s : Session) (f : Facts s) where
       both (eqb s.kind 3)
       (λ k.
       let z : Some (brittle_due_lem s) ≡ Some n = sym (simp k) ∙ e in
-      let q = ap number_of z in
+      let q = ap (λ (o : Option ℕ). unwrap_or o 0) z in
       ⊎_elim (λ d. omega arith)
       (λ d. omega (arith, d.3, f.clock, f.next d.0 d.1, facts_deadline s f d.0, period_small d.0))
       (due_is s))
-      (λ k. let z : None ≡ Some n = sym (simp k) ∙ e in absurd (false≢true (ap given z)))
+      (λ k. let z : None ≡ Some n = sym (simp k) ∙ e in absurd (false≢true (ap is_some z)))
 
 pub explanation_fits : ExplanationFits
 unfolding explanation_of

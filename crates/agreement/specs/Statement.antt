@@ -89,4 +89,4 @@ RefusedSame = (s : Session) (l d : List ℕ) → ¬ ((shown_told (told_of s l (l
 -- WHAT A READER READS OF THE TEXT IS THE EXPLANATION
 abbrev pub ReadAgain : Type 0
 ReadAgain = (s : Session) (l d : List ℕ) (n u : ℕ) → Words l → told_of s l (length d) ≡ Text n u
-    → reading_of (take n (buffer_of s l d)) ≡ record { found = true; parts = (explain_of s l).parts }
+    → reading_of (take n (buffer_of s l d)) ≡ Some (explain_of s l).parts
