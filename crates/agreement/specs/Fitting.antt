@@ -1,5 +1,5 @@
 -- Every number of an explanation has 64 bits. Assumes nothing.
-use Rattle.std.specs.Prelude.{ℕ, ◌+◌, ◌*◌, ◌^◌, ◌≤◌, ◌<◌, ◌≡◌, true, not, ◌&&◌, List, eqb, length, drop}
+use Rattle.std.specs.Prelude.{ℕ, ◌+◌, ◌*◌, ◌^◌, ◌≤◌, ◌<◌, ◌≡◌, true, not, ◌&&◌, List, eqb, length, drop, None, Option, Some, is_some, unwrap_or}
 use Rattle.std.proofs.Math.Path.{sym, ap}
 use Rattle.std.proofs.Common.{◌∙◌, arith}
 use Rattle.std.proofs.lemmas.Bool.{false≢true}
@@ -21,12 +21,11 @@ use Rattle.session.specs.Choose.{draw, pick_of, pick_used, room, unopposed, leng
 use Rattle.guarantee.specs.KeepsTable.{opinion_length, most_le}
 use Rattle.guarantee.specs.KeepsPick.{pick_may}
 use Rattle.guarantee.specs.Room.{room_lesser}
-use Rattle.wording.specs.declared.Optional.TheVariants.{None, Of}
 use Rattle.wording.specs.Explanation.{FitsJob}
 use Rattle.explain.specs.Explain.{held_of, brittle_of, explanation_of}
 use Rattle.explain.specs.Account.{waiting_few, held_length, held_at}
 use Rattle.agreement.specs.Statement.{ExplanationFits}
-use Rattle.agreement.specs.Words.{number_of, given, decided_drawn, taken_small}
+use Rattle.agreement.specs.Words.{decided_drawn, taken_small}
 
 module _ (s : Session) (f : Facts s) where
   -- a waiting job's deadline and budget
@@ -76,17 +75,17 @@ module _ (s : Session) (f : Facts s) where
       let n = good_length (length (rows_of s)) (opinion_length (rows_of s) f.admitted) in
       omega (arith, get_or-eq_default (rows_of s) 0 {n = 3 * i + 1} (omega (arith, n))))
 
-  brittle_small : (n : ℕ) → brittle_of s ≡ Of n → n < 2 ^ 64
+  brittle_small : (n : ℕ) → brittle_of s ≡ Some n → n < 2 ^ 64
   unfolding brittle_of
   brittle_small n e =
       both (eqb s.kind 3)
       (λ k.
-      let z : Of (brittle_due_lem s) ≡ Of n = sym (simp k) ∙ e in
-      let q = ap number_of z in
+      let z : Some (brittle_due_lem s) ≡ Some n = sym (simp k) ∙ e in
+      let q = ap (λ (o : Option ℕ). unwrap_or o 0) z in
       ⊎_elim (λ d. omega arith)
       (λ d. omega (arith, d.3, f.clock, f.next d.0 d.1, facts_deadline s f d.0, period_small d.0))
       (due_is s))
-      (λ k. let z : None ≡ Of n = sym (simp k) ∙ e in absurd (false≢true (ap given z)))
+      (λ k. let z : None ≡ Some n = sym (simp k) ∙ e in absurd (false≢true (ap is_some z)))
 
 pub explanation_fits : ExplanationFits
 unfolding explanation_of

@@ -1,5 +1,5 @@
 -- What is said of explanations (docs/SPECIFICATION.md §11). Definitions only. Assumes nothing.
-use Rattle.std.specs.Prelude.{ℕ, ◌%◌, ◌^◌, ◌≤◌, ◌<◌, ◌≡◌, true, List, ◌∷◌, ◌++◌, length, get_or, take, drop}
+use Rattle.std.specs.Prelude.{ℕ, ◌%◌, ◌^◌, ◌≤◌, ◌<◌, ◌≡◌, true, List, ◌∷◌, ◌++◌, length, get_or, take, drop, None, Some}
 use Rattle.session.specs.declared.Session.{Session}
 use Rattle.session.specs.declared.Answer.TheVariants.{Chosen}
 use Rattle.session.specs.Reading.{waits}
@@ -8,7 +8,6 @@ use Rattle.session.specs.Order.{before, head_of, candidates, candidate_at, waiti
 use Rattle.session.specs.Choose.{draw_limit, pick_of}
 use Rattle.session.specs.Calls.{shown, choose_of}
 use Rattle.guarantee.specs.Draws.{AllPassed}
-use Rattle.wording.specs.declared.Optional.TheVariants.{None, Of}
 use Rattle.wording.specs.Explanation.{Fits, no_held}
 use Rattle.wording.specs.Text.{text_of}
 use Rattle.reader.specs.Reading.{reading_of}
@@ -57,7 +56,7 @@ pub record Deciding (s : Session) (l : List ℕ) (w : ℕ) : Type 0 where
 
 -- THE WORD THAT IT NAMES DECIDED, AND NONE BEFORE IT
 abbrev pub WordDecided : Type 0
-WordDecided = (s : Session) (l : List ℕ) (w : ℕ) → decided_of s l ≡ Of w → Deciding s l w
+WordDecided = (s : Session) (l : List ℕ) (w : ℕ) → decided_of s l ≡ Some w → Deciding s l w
 
 -- WHERE IT NAMES NONE, THE HEAD WAS CHOSEN, if a job waits
 abbrev pub NoneDecided : Type 0
@@ -90,4 +89,4 @@ RefusedSame = (s : Session) (l d : List ℕ) → ¬ ((shown_told (told_of s l (l
 -- WHAT A READER READS OF THE TEXT IS THE EXPLANATION
 abbrev pub ReadAgain : Type 0
 ReadAgain = (s : Session) (l d : List ℕ) (n u : ℕ) → Words l → told_of s l (length d) ≡ Text n u
-    → reading_of (take n (buffer_of s l d)) ≡ record { found = true; parts = (explain_of s l).parts }
+    → reading_of (take n (buffer_of s l d)) ≡ Some (explain_of s l).parts

@@ -1,5 +1,5 @@
 -- An explanation agrees with choose, and its text is there and is read back. Assumes nothing.
-use Rattle.std.specs.Prelude.{ℕ, ◌+◌, ◌≤◌, ◌≡◌, Bool, true, false, List, ◌++◌, ltb, take}
+use Rattle.std.specs.Prelude.{ℕ, ◌+◌, ◌≤◌, ◌≡◌, Bool, true, false, List, ◌++◌, ltb, take, Some}
 use Rattle.std.proofs.Math.Path.{sym, ap}
 use Rattle.std.proofs.Common.{◌∙◌, arith}
 use Rattle.std.proofs.lemmas.Bool.{false≢true}
@@ -89,7 +89,7 @@ module _ (s : Session) (l d : List ℕ) (n u : ℕ) (ws : Words l) (q : told_of 
     short = omega (arith, is.size, short);
   }
 
-  read_parts : reading_of (take n (buffer_of s l d)) ≡ record { found = true; parts = (explain_of s l).parts }
+  read_parts : reading_of (take n (buffer_of s l d)) ≡ Some (explain_of s l).parts
   unfolding explain_of explain_in
   read_parts =
       ap reading_of stands.text

@@ -1,5 +1,5 @@
 -- The deciding word of an explanation is the first that is not passed over. Assumes nothing.
-use Rattle.std.specs.Prelude.{ℕ, suc, ◌%◌, ◌^◌, ◌<◌, ◌≡◌, Bool, true, false, List, [], ◌∷◌, ◌++◌}
+use Rattle.std.specs.Prelude.{ℕ, suc, ◌%◌, ◌^◌, ◌<◌, ◌≡◌, true, false, List, [], ◌∷◌, ◌++◌, None, Option, Some, is_some, unwrap_or}
 use Rattle.std.proofs.Math.Path.{sym}
 use Rattle.std.proofs.Common.{ap, ◌∙◌, arith, leb-true, leb-false, lt-ltb}
 use Rattle.std.proofs.lemmas.Bool.{false≢true}
@@ -8,8 +8,6 @@ use Rattle.session.specs.declared.Session.{Session}
 use Rattle.session.specs.Order.{head_of, candidates, candidate_at}
 use Rattle.session.specs.Choose.{draw_limit, passed_over, draw, drawn, pick_of}
 use Rattle.guarantee.specs.Draws.{AllPassed}
-use Rattle.wording.specs.declared.Optional.{Optional}
-use Rattle.wording.specs.declared.Optional.TheVariants.{None, Of}
 use Rattle.explain.specs.Explain.{word_taken, decided_of}
 use Rattle.explain.specs.Account.{drawn_then}
 use Rattle.agreement.specs.Statement.{WordDecided, NoneDecided, Words}
@@ -47,27 +45,17 @@ parted (w ∷ l) n h =
       drawn = simp p;
     })
 
--- an optional's number, 0 where there is none
-abbrev pub number_of : Optional → ℕ
-number_of None = 0
-number_of (Of n) = n
-
--- whether there is one
-abbrev pub given : Optional → Bool
-given None = false
-given (Of n) = true
-
 module _ (s : Session) (l : List ℕ) where
-  pub decided_drawn : (w : ℕ) → decided_of s l ≡ Of w → (drawn s l ≡ true) × (w ≡ word_taken l (candidates s))
+  pub decided_drawn : (w : ℕ) → decided_of s l ≡ Some w → (drawn s l ≡ true) × (w ≡ word_taken l (candidates s))
   unfolding decided_of
   decided_drawn w e =
-      both (drawn s l) (λ t. let q : Of (word_taken l (candidates s)) ≡ Of w = sym (simp t) ∙ e in (t, sym (ap number_of q)))
-      (λ f. let z : None ≡ Of w = sym (simp f) ∙ e in absurd (false≢true (ap given z)))
+      both (drawn s l) (λ t. let q : Some (word_taken l (candidates s)) ≡ Some w = sym (simp t) ∙ e in (t, sym (ap (λ (o : Option ℕ). unwrap_or o 0) q)))
+      (λ f. let z : None ≡ Some w = sym (simp f) ∙ e in absurd (false≢true (ap is_some z)))
 
   none_drawn : decided_of s l ≡ None → drawn s l ≡ false
   unfolding decided_of
   none_drawn e =
-      both (drawn s l) (λ t. let z : Of (word_taken l (candidates s)) ≡ None = sym (simp t) ∙ e in absurd (false≢true (sym (ap given z)))) (λ f. f)
+      both (drawn s l) (λ t. let z : Some (word_taken l (candidates s)) ≡ None = sym (simp t) ∙ e in absurd (false≢true (sym (ap is_some z)))) (λ f. f)
 
 pub word_decided : WordDecided
 unfolding pick_of

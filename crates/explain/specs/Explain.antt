@@ -1,6 +1,6 @@
 -- A choice explained: what choose answers on the same session and words, and what led to it (docs/SPECIFICATION.md §11).
 -- Definitions only. Assumes nothing.
-use Rattle.std.specs.Prelude.{ℕ, zero, suc, cond, List, [], ◌∷◌, ◌++◌, ltb, eqb, length}
+use Rattle.std.specs.Prelude.{ℕ, zero, suc, cond, List, [], ◌∷◌, ◌++◌, ltb, eqb, length, None, Option, Some}
 use Rattle.decimal.specs.Buffer.{overlay}
 use Rattle.session.specs.declared.Session.{Session}
 use Rattle.session.specs.declared.Answer.{Answer}
@@ -11,8 +11,6 @@ use Rattle.session.specs.Calls.{Shown, three}
 use Rattle.session.specs.Order.{head_of, brittle_due_lem, candidate, candidates, waiting_count, waiting_at}
 use Rattle.session.specs.Choose.{passed_over, drawn, pick_of, unopposed, length_drawn, span_of, pick_used, used_of}
 use Rattle.wording.specs.declared.Held.{Held}
-use Rattle.wording.specs.declared.Optional.{Optional}
-use Rattle.wording.specs.declared.Optional.TheVariants.{None, Of}
 use Rattle.wording.specs.declared.Cause.{Cause}
 use Rattle.wording.specs.declared.Cause.TheVariants.{Remaining, Word, NoWord, Nothing}
 use Rattle.wording.specs.Explanation.{Explanation, parts_of, no_parts}
@@ -33,8 +31,8 @@ held_to s zero = []
 held_to s (suc n) = held_to s n ++ held_of s (waiting_at s n) ∷ []
 
 -- in a mixed session the brittle deadline
-unfoldable pub brittle_of : Session → Optional
-brittle_of s = cond (eqb s.kind 3) (Of (brittle_due_lem s)) None
+unfoldable pub brittle_of : Session → Option ℕ
+brittle_of s = cond (eqb s.kind 3) (Some (brittle_due_lem s)) None
 
 -- the word that a draw between n takes: the first that is not passed over; 0 where there is none
 unfoldable pub word_taken : List ℕ → ℕ → ℕ
@@ -42,8 +40,8 @@ word_taken [] n = 0
 word_taken (w ∷ l) n = cond (passed_over n w) (word_taken l n) w
 
 -- the word that decides between the candidates, if one does
-unfoldable pub decided_of : Session → List ℕ → Optional
-decided_of s l = cond (drawn s l) (Of (word_taken l (candidates s))) None
+unfoldable pub decided_of : Session → List ℕ → Option ℕ
+decided_of s l = cond (drawn s l) (Some (word_taken l (candidates s))) None
 
 -- what set the span: that nothing waits; the remaining ticks, where no waiting job is of strictly earlier deadline than the chosen
 -- one; otherwise a word, or the lack of one

@@ -1,5 +1,6 @@
 -- The cases of the code of src/lib.rt. Assumes nothing.
-use Rattle.std.specs.Prelude.{ℕ, ◌≤◌, ◌<◌, ◌≡◌, Bool, false, List, map, length, take, drop}
+use Rattle.std.specs.Prelude.{ℕ, ◌≤◌, ◌<◌, ◌≡◌, Bool, false, List, map, length, take, drop, Some, None}
+use Rattle.std.specs.Bool.{then_some}
 use Rattle.std.proofs.Math.Path.{sym, ap}
 use Rattle.std.proofs.Common.{◌∙◌, true≢false, arith, take_at}
 use Rattle.std.proofs.Math.Bool.{true}
@@ -7,23 +8,17 @@ use Rattle.std.proofs.lemmas.List.{length-map}
 use Rattle.bounded.specs.Tests.{both}
 use Rattle.decimal.specs.Buffer.{overlay, Wrote}
 use Rattle.wording.specs.declared.Parts.{Parts}
-use Rattle.wording.specs.Explanation.{parts_of, held_in, no_parts}
+use Rattle.wording.specs.Explanation.{parts_of, held_in}
 use Rattle.wording.specs.Layout.{held_parts}
 use Rattle.wording.specs.Text.{text_of}
-use Rattle.reader.specs.declared.Reading.{Reading}
-use Rattle.reader.specs.declared.parts.FoundNumber.{FoundNumber}
-use Rattle.reader.specs.Reading.{number_in, jobs_in, explanation_from, explanation_in, same, is_text, not_found_lem, reading_of}
+use Rattle.reader.specs.declared.parts.Found.{Found}
+use Rattle.reader.specs.Reading.{number_in, jobs_in, explanation_from, explanation_in, same, is_text, reading_of}
 use Rattle.reader.specs.Back.{read_back}
 use Rattle.reader.specs.Same.{same_true, same_self}
 use Rattle.reader.specs.Fitted.{cut_job, cut_all, cut_fits, fits_cut}
 use Rattle.reader.specs.Took.{Took, number_at}
 use Rattle.reader.specs.Code.{jobs_length}
 use Rattle.reader.specs.Theorems.{text_is, is_text_lem}
-
--- ---- `not_found`
-
-pub not_found : (p : Parts) → p ≡ no_parts → record { found = false; parts = p } ≡ not_found_lem
-not_found p e = rw e
 
 -- ---- `tells`
 
@@ -48,7 +43,7 @@ count_few n t p h e =
     let c : p.count ≡ length (map cut_job (jobs_in n t).part) = ap (λ (q : Parts). q.count) e in
     omega (arith, length-map (jobs_in n t).part cut_job, jobs_length n t)
 
-none_read : (l : List ℕ) → is_text l ≡ false → not_found_lem ≡ reading_of l
+none_read : (l : List ℕ) → is_text l ≡ false → None ≡ reading_of l
 unfolding reading_of
 none_read l n = simp n
 
@@ -57,12 +52,11 @@ jobs_counted : (l : List ℕ) → length (explanation_in l).jobs ≡ number_in (
 unfolding explanation_in explanation_from
 jobs_counted l = jobs_length _ _
 
-module _ (l : List ℕ) (n : FoundNumber) (r : Took (number_at (drop 14 l)) l n.value n.at) where
-  pub read_many : (a : Reading) → 16 < n.value → a ≡ not_found_lem → a ≡ reading_of l
+module _ (l : List ℕ) (n : Found ℕ) (r : Took (number_at (drop 14 l)) l n.value n.at) where
+  pub read_many : 16 < n.value → None ≡ reading_of l
   unfolding number_at
-  read_many a h e =
-      e
-      ∙ both (is_text l)
+  read_many h =
+      both (is_text l)
       (λ y. let f = (is_text_lem l y).0 in absurd (omega (arith, r.part, f.few, jobs_counted l)))
       (λ m. none_read l m)
 
@@ -79,7 +73,7 @@ module _ (l : List ℕ) (n : FoundNumber) (r : Took (number_at (drop 14 l)) l n.
     compared : b ≡ same (text_of (cut_all (explanation_in l))) l
     compared = s ∙ rw (all_read, held_parts (cut_all (explanation_in l)))
 
-    pub read_same : b ≡ true → record { found = true; parts = p } ≡ reading_of l
+    read_same : b ≡ true → Some p ≡ reading_of l
     unfolding reading_of
     read_same y =
         let e = explanation_in l in
@@ -87,16 +81,19 @@ module _ (l : List ℕ) (n : FoundNumber) (r : Took (number_at (drop 14 l)) l n.
         let k : e ≡ cut_all e = sym (ap explanation_in t) ∙ read_back (cut_all e) in
         let f = cut_fits e (omega (arith, jobs_counted l, counted)) in
         let i : is_text l ≡ true = sym (ap is_text t) ∙ text_is (cut_all e) f in
-        simp i (ap (λ (p : Parts). record { found = true; parts = p }) (all_read ∙ ap parts_of (sym k)))
+        simp i (ap Some (all_read ∙ ap parts_of (sym k)))
 
-    pub read_other : (a : Reading) → b ≡ false → a ≡ not_found_lem → a ≡ reading_of l
-    read_other a d e =
-        e
-        ∙ both (is_text l)
+    read_other : b ≡ false → None ≡ reading_of l
+    read_other d =
+        both (is_text l)
         (λ y.
         let t = is_text_lem l y in
         let g : same (text_of (cut_all (explanation_in l))) l ≡ true = rw (fits_cut _ t.0, t.1) (same_self l) in
         absurd (true≢false (sym g ∙ sym compared ∙ d)))
         (λ m. none_read l m)
 
-pub ruleset read_cases = (read_many, read_same, read_other)
+    -- the parts, if the comparison says so
+    pub read_compared : then_some b p ≡ reading_of l
+    read_compared = both b (λ y. simp y (read_same y)) (λ n. simp n (read_other n))
+
+pub ruleset read_cases = (read_many, read_compared)

@@ -1,13 +1,11 @@
 -- Each part of a text reads back as it was written, and so does the whole (docs/EXPLANATIONS.md). Assumes nothing.
-use Rattle.std.specs.Prelude.{ℕ, ◌≡◌, refl, Bool, true, false, cond, List, [], ◌∷◌, ◌++◌, eqb, length}
+use Rattle.std.specs.Prelude.{ℕ, ◌≡◌, refl, Bool, true, false, cond, List, [], ◌∷◌, ◌++◌, eqb, length, None, Option, Some}
 use Rattle.std.proofs.Common.{sym, ap, append_assoc, eqb-true}
 use Rattle.bounded.specs.Tests.{both, and-true}
 use Rattle.decimal.specs.Decimal.{decimal}
 use Rattle.decimal.specs.Number.{is_digit, all_digits}
 use Rattle.decimal.specs.RoundTrip.{decimal_digits, value_back}
 use Rattle.wording.specs.declared.Held.{Held}
-use Rattle.wording.specs.declared.Optional.{Optional}
-use Rattle.wording.specs.declared.Optional.TheVariants.{None, Of}
 use Rattle.wording.specs.declared.Cause.{Cause}
 use Rattle.wording.specs.declared.Cause.TheVariants.{Remaining, Word, NoWord, Nothing}
 use Rattle.wording.specs.Explanation.{Explanation}
@@ -79,10 +77,10 @@ jobs_back (j ∷ l) t = rw (append_assoc (job_text j) (jobs_text l) t, job_back 
 -- ---- the other parts
 
 -- the line that follows begins with C
-brittle_back : (b : Optional) (t : List ℕ) → brittle_in (brittle_text b ++ 67 ∷ t) ≡ record { part = b; rest = 67 ∷ t }
+brittle_back : (b : Option ℕ) (t : List ℕ) → brittle_in (brittle_text b ++ 67 ∷ t) ≡ record { part = b; rest = 67 ∷ t }
 unfolding brittle_in
 brittle_back None t = refl
-brittle_back (Of d) t = simp append_assoc (rw (number_back d 58 _ refl, after_back d 58 _ refl))
+brittle_back (Some d) t = simp append_assoc (rw (number_back d 58 _ refl, after_back d 58 _ refl))
 
 -- a comma follows
 chosen_back : (c : ℕ) (t : List ℕ) → chosen_in (chosen_text c ++ 44 ∷ t) ≡ record { part = c; rest = 44 ∷ t }
@@ -92,10 +90,10 @@ chosen_back c t =
     (λ e. simp e (ap (λ (x : ℕ). record { part = x; rest = 44 ∷ t }) (sym (eqb-true c 16 e))))
     (λ e. simp (e, append_assoc) (rw (number_back c 44 t refl, after_back c 44 t refl)))
 
-decided_back : (w : Optional) (t : List ℕ) → decided_in (decided_text w ++ t) ≡ record { part = w; rest = t }
+decided_back : (w : Option ℕ) (t : List ℕ) → decided_in (decided_text w ++ t) ≡ record { part = w; rest = t }
 unfolding decided_in
 decided_back None t = refl
-decided_back (Of n) t = simp append_assoc (rw (number_back n 46 _ refl, after_back n 46 _ refl))
+decided_back (Some n) t = simp append_assoc (rw (number_back n 46 _ refl, after_back n 46 _ refl))
 
 cause_back : (c : Cause) → cause_in (cause_text c) ≡ c
 unfolding cause_in
@@ -106,13 +104,13 @@ cause_back Nothing = refl
 
 -- ---- one part after another
 
-brittle_next : (b : Optional) (c : ℕ) (t : List ℕ) → brittle_in (brittle_text b ++ (chosen_text c ++ t)) ≡ record { part = b; rest = chosen_text c ++ t }
+brittle_next : (b : Option ℕ) (c : ℕ) (t : List ℕ) → brittle_in (brittle_text b ++ (chosen_text c ++ t)) ≡ record { part = b; rest = chosen_text c ++ t }
 unfolding chosen_text
 brittle_next b c t = both (eqb c 16) (λ e. simp e (brittle_back b _)) (λ e. simp e (brittle_back b _))
 
-chosen_next : (c : ℕ) (w : Optional) (t : List ℕ) → chosen_in (chosen_text c ++ (decided_text w ++ t)) ≡ record { part = c; rest = decided_text w ++ t }
+chosen_next : (c : ℕ) (w : Option ℕ) (t : List ℕ) → chosen_in (chosen_text c ++ (decided_text w ++ t)) ≡ record { part = c; rest = decided_text w ++ t }
 chosen_next c None t = chosen_back c _
-chosen_next c (Of n) t = chosen_back c _
+chosen_next c (Some n) t = chosen_back c _
 
 span_next : (n : ℕ) (c : Cause) → (number_in (decimal n ++ cause_text c) ≡ n) × (after_digits (decimal n ++ cause_text c) ≡ cause_text c)
 span_next n Remaining = (number_back n 58 _ refl, after_back n 58 _ refl)

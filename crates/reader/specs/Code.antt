@@ -1,56 +1,25 @@
 -- The cases of the code of src/parts.rt. Assumes nothing.
-use Rattle.std.specs.Prelude.{ℕ, zero, suc, ◌+◌, ◌-◌, ◌*◌, ◌≤◌, ◌<◌, ◌^◌, ◌≡◌, false, length, get_or, drop, set, replicate}
+use Rattle.std.specs.Prelude.{ℕ, zero, suc, ◌+◌, ◌-◌, ◌*◌, ◌≤◌, ◌<◌, ◌^◌, ◌≡◌, false, length, get_or, drop, set, Bool, None, Option, Some}
 use Rattle.std.proofs.Math.Path.{refl, sym, ap}
-use Rattle.std.proofs.Common.{◌∙◌, add-zero, add-one, arith, drop-drop, drop-cons, get_or-drop}
+use Rattle.std.proofs.Common.{◌∙◌, add-one, arith, drop-cons}
 use Rattle.std.proofs.Math.Bool.{true, and-false}
 use mathlib.Core.List.{List, [], ◌∷◌, ◌++◌, map, map-append}
 use Rattle.std.proofs.lemmas.List.{length-map}
-use Rattle.std.proofs.Math.ListN.{drop_of_length-le, get_or-eq_default}
+use Rattle.std.proofs.Math.ListN.{drop_of_length-le}
 use Rattle.std.proofs.Math.Seq.{drop-length}
+use Rattle.std.proofs.Math.Logic.{◌⊎◌, ⊎_elim}
 use borrow.Author.Tests.{eq-eqb, ne_eqb, le-leb, lt-leb}
 use Rattle.decimal.specs.Number.{is_digit, value_from}
 use Rattle.wording.specs.declared.Held.{Held}
-use Rattle.wording.specs.declared.Optional.TheVariants.{None, Of}
+use Rattle.wording.specs.declared.Parts.{Parts}
 use Rattle.wording.specs.declared.Cause.{Cause}
 use Rattle.wording.specs.declared.Cause.TheVariants.{Remaining, Word, NoWord, Nothing}
-use Rattle.wording.specs.Explanation.{laid, no_held, parts_of}
-use Rattle.wording.specs.Layout.{laid_none, laid_next}
-use Rattle.reader.specs.declared.parts.FoundNumber.{FoundNumber}
-use Rattle.reader.specs.declared.parts.FoundFlag.{FoundFlag}
-use Rattle.reader.specs.declared.parts.FoundOptional.{FoundOptional}
-use Rattle.reader.specs.declared.parts.FoundJobs.{FoundJobs}
+use Rattle.wording.specs.Explanation.{laid, parts_of, no_parts}
+use Rattle.wording.specs.Layout.{laid_next}
+use Rattle.reader.specs.declared.parts.Found.{Found}
 use Rattle.reader.specs.Reading.{digits, after_digits, number_in, Part, past_holds_lem, candidate_in, job_in, jobs_in, brittle_in, chosen_in, decided_in, cause_in, explanation_from}
 use Rattle.reader.specs.Fitted.{cut, cut_job, cut_all}
 use Rattle.reader.specs.Took.{Took, number_at, job_at, jobs_at, brittle_at, chosen_at, decided_at}
-
--- ---- places
-
-module _ (l : List ℕ) (at n : ℕ) where
-  nothing_left : length l ≤ at + n → drop n (drop at l) ≡ []
-  nothing_left h = rw drop-drop (drop_of_length-le l h)
-
-  pub skip_none : length l ≤ at → drop at l ≡ drop n (drop at l)
-  skip_none h = drop_of_length-le l h ∙ sym (nothing_left (omega arith))
-
-  pub skip_end : at < length l → length l - at ≤ n → drop (length l) l ≡ drop n (drop at l)
-  skip_end h k = drop-length l ∙ sym (nothing_left (omega arith))
-
-  pub skip_on : drop (at + n) l ≡ drop n (drop at l)
-  skip_on = sym (drop-drop n at l)
-
-  module _ (e : ℕ) (q : drop e l ≡ drop n (drop at l)) where
-    pub byte_on : get_or l e 0 ≡ get_or (drop at l) n 0
-    byte_on =
-        let a : get_or (drop e l) 0 0 ≡ get_or l e 0 = rw add-zero at (get_or-drop e l 0 0) in
-        let b : get_or (drop n (drop at l)) 0 0 ≡ get_or (drop at l) n 0 = rw add-zero at (get_or-drop n (drop at l) 0 0) in
-        sym a ∙ ap (λ (t : List ℕ). get_or t 0 0) q ∙ b
-
-    pub byte_none : length l ≤ e → 0 ≡ get_or (drop at l) n 0
-    byte_none h = sym (get_or-eq_default l 0 h) ∙ byte_on
-
-pub ruleset skip_cases = (skip_none, skip_end, skip_on)
-
-pub ruleset byte_cases = (byte_none, byte_on)
 
 -- ---- a number
 
@@ -68,20 +37,17 @@ cut_first v (b ∷ l) =
     let e : cut (10 * cut v + (b - 48)) ≡ cut (10 * v + (b - 48)) = omega arith in
     sym (cut_first (10 * cut v + (b - 48)) l) ∙ ap (λ (n : ℕ). cut (value_from n l)) e ∙ cut_first (10 * v + (b - 48)) l
 
-pub digits_start : (l : List ℕ) (at : ℕ) → Digits l at 0 at
-digits_start l at = record { small = omega arith; value = refl; rest = refl }
-
 module _ (l : List ℕ) (at v i : ℕ) (r : Digits l at v i) where
   -- no digit stands in front any more
-  ended : digits (drop i l) ≡ [] → after_digits (drop i l) ≡ drop i l → Took (number_at (drop at l)) l v i
+  ended : (e : ℕ) → digits (drop i l) ≡ [] → after_digits (drop i l) ≡ drop e l → Took (number_at (drop at l)) l v e
   unfolding number_at value_from
-  ended d a =
-      let e : cut v ≡ cut (number_in (drop at l)) = ap (λ (t : List ℕ). cut (value_from v t)) (sym d) ∙ r.value in
+  ended e d a =
+      let c : cut v ≡ cut (number_in (drop at l)) = ap (λ (t : List ℕ). cut (value_from v t)) (sym d) ∙ r.value in
       record { part = omega (arith, r.small); rest = sym a ∙ r.rest }
 
-  pub digits_done : length l ≤ i → Took (number_at (drop at l)) l v i
+  pub digits_done : length l ≤ i → Took (number_at (drop at l)) l v (length l)
   unfolding digits after_digits
-  digits_done h = let e = drop_of_length-le l h in ended (ap digits e) (ap after_digits e ∙ sym e)
+  digits_done h = let e = drop_of_length-le l h in ended (length l) (ap digits e) (ap after_digits e ∙ sym (drop-length l))
 
   module _ (h : i < length l) where
     next : drop i l ≡ get_or l i 0 ∷ drop (i + 1) l
@@ -89,13 +55,12 @@ module _ (l : List ℕ) (at v i : ℕ) (r : Digits l at v i) where
 
     no_digit : is_digit (get_or l i 0) ≡ false → Took (number_at (drop at l)) l v i
     unfolding digits after_digits
-    no_digit n = ended (rw next (simp n)) (rw next (simp n))
+    no_digit n = ended i (rw next (simp n)) (rw next (simp n))
 
-    pub digits_low : get_or l i 0 < 48 → Took (number_at (drop at l)) l v i
-    digits_low k = no_digit (simp (lt-leb _ _ k))
-
-    pub digits_high : 57 < get_or l i 0 → Took (number_at (drop at l)) l v i
-    digits_high k = no_digit (simp (lt-leb _ _ k, and-false))
+    pub digits_end : (get_or l i 0 < 48) ⊎ ((48 ≤ get_or l i 0) × (57 < get_or l i 0)) → Took (number_at (drop at l)) l v i
+    digits_end =
+        ⊎_elim (λ k. no_digit (simp (lt-leb 48 (get_or l i 0) k)))
+        (λ k. no_digit (simp (lt-leb (get_or l i 0) 57 k.1, and-false)))
 
     pub digits_next : (w : ℕ) → 48 ≤ get_or l i 0 → get_or l i 0 ≤ 57 → w ≡ cut (10 * v + (get_or l i 0 - 48)) → Digits l at w (i + 1)
     unfolding digits after_digits value_from
@@ -107,11 +72,7 @@ module _ (l : List ℕ) (at v i : ℕ) (r : Digits l at v i) where
           rest = simp (next, y) at r.rest;
         }
 
-pub ruleset digits_cases = (digits_start, digits_done, digits_low, digits_high, digits_next)
-
-pub number_is : (l : List ℕ) (at n e : ℕ) (r : FoundNumber) → drop e l ≡ drop n (drop at l) → Took (number_at (drop e l)) l r.value r.at
-    → Took (number_at (drop n (drop at l))) l r.value r.at
-number_is l at n e r q t = rw q at t
+pub ruleset digits_cases = (digits_done, digits_end, digits_next)
 
 -- ---- the end of a job's line
 
@@ -139,13 +100,13 @@ pub ruleset candidate_cases = (candidate_yes, candidate_no)
 
 -- ---- jobs
 
-pub job_is : (l t : List ℕ) (x y z : FoundNumber) (e : ℕ) (c : FoundFlag)
+pub job_is : (l t : List ℕ) (x y z : Found ℕ) (e : ℕ) (c : Found Bool)
     → Took (number_at (drop 4 t)) l x.value x.at
     → Took (number_at (drop 9 (drop x.at l))) l y.value y.at
     → Took (number_at (drop 9 (drop y.at l))) l z.value z.at
     → drop e l ≡ past_holds_lem (drop z.at l)
-    → Took (candidate_in (drop e l)) l c.flag c.at
-    → Took (job_at t) l (record { row = x.value; due = y.value; budget = z.value; candidate = c.flag }) c.at
+    → Took (candidate_in (drop e l)) l c.value c.at
+    → Took (job_at t) l (record { row = x.value; due = y.value; budget = z.value; candidate = c.value }) c.at
 unfolding job_at job_in number_at
 job_is l t x y z e c hx hy hz he hc = record {
   part = simp (hx.part, hy.part, hz.part, hc.part, he, hz.rest, hy.rest, hx.rest);
@@ -166,9 +127,9 @@ jobs_length zero t = refl
 jobs_length (suc n) t = ap suc (jobs_length n (job_in t).rest)
 
 -- the first i jobs stand in their places
-pub jobs_start : (l : List ℕ) (at : ℕ) → Took (jobs_at 0 (drop at l)) l (replicate 16 no_held) at
+pub jobs_start : (l : List ℕ) (at : ℕ) (p : Parts) → p ≡ no_parts → Took (jobs_at 0 (drop at l)) l p.jobs at
 unfolding jobs_at jobs_in
-jobs_start l at = record { part = sym laid_none; rest = refl }
+jobs_start l at p e = record { part = ap (λ (q : Parts). q.jobs) e; rest = refl }
 
 pub jobs_next : (l t : List ℕ) (i e next : ℕ) (js : List Held) (j : Held) → i < 16 → Took (jobs_at i t) l js e → Took (job_at (drop e l)) l j next
     → Took (jobs_at (i + 1) t) l (set js i j) next
@@ -182,18 +143,13 @@ jobs_next l t i e next js j h r q =
       rest = q.rest ∙ rw r.rest;
     })
 
-pub jobs_done : (l t : List ℕ) (i n e : ℕ) (js : List Held) → i ≤ n → n ≤ i → Took (jobs_at i t) l js e → Took (jobs_at n t) l js e
-jobs_done l t i n e js a b r = let q : i ≡ n = omega arith in rw q at r
-
-pub ruleset jobs_cases = (jobs_start, jobs_next, jobs_done)
-
 -- ---- the other parts
 
 module _ (l t : List ℕ) (b : ℕ) where
-  pub brittle_yes : (d : FoundNumber) (e : ℕ) → b ≡ get_or t 0 0 → b ≡ 66 → Took (number_at (drop 17 t)) l d.value d.at
-      → drop e l ≡ drop 53 (drop d.at l) → Took (brittle_at t) l (Of d.value) e
+  pub brittle_yes : (d : Found ℕ) (e : ℕ) → b ≡ get_or t 0 0 → b ≡ 66 → Took (number_at (drop 17 t)) l d.value d.at
+      → drop e l ≡ drop 53 (drop d.at l) → Took (brittle_at t) l (Some d.value) e
   unfolding brittle_at brittle_in number_at
-  brittle_yes d e g y r q = simp (← g, eq-eqb b 66 y) (record { part = ap Of r.part; rest = q ∙ rw r.rest })
+  brittle_yes d e g y r q = simp (← g, eq-eqb b 66 y) (record { part = ap Some r.part; rest = q ∙ rw r.rest })
 
   pub brittle_no : (at : ℕ) → b ≡ get_or (drop at l) 0 0 → (b ≡ 66 → ⊥) → Took (brittle_at (drop at l)) l None at
   unfolding brittle_at brittle_in
@@ -203,15 +159,15 @@ module _ (l t : List ℕ) (b : ℕ) where
   unfolding chosen_at chosen_in
   chosen_idle_lem e g y q = simp (← g, eq-eqb b 105 y) (record { part = refl; rest = q })
 
-  pub chosen_row_lem : (c : FoundNumber) → b ≡ get_or t 8 0 → (b ≡ 105 → ⊥) → Took (number_at (drop 12 t)) l c.value c.at
+  pub chosen_row_lem : (c : Found ℕ) → b ≡ get_or t 8 0 → (b ≡ 105 → ⊥) → Took (number_at (drop 12 t)) l c.value c.at
       → Took (chosen_at t) l c.value c.at
   unfolding chosen_at chosen_in number_at
   chosen_row_lem c g n r = simp (← g, ne_eqb b 105 n) (record { part = r.part; rest = r.rest })
 
-  pub decided_yes : (w : FoundNumber) (e : ℕ) → b ≡ get_or t 2 0 → b ≡ 98 → Took (number_at (drop 10 t)) l w.value w.at
-      → drop e l ≡ drop 2 (drop w.at l) → Took (decided_at t) l (Of w.value) e
+  pub decided_yes : (w : Found ℕ) (e : ℕ) → b ≡ get_or t 2 0 → b ≡ 98 → Took (number_at (drop 10 t)) l w.value w.at
+      → drop e l ≡ drop 2 (drop w.at l) → Took (decided_at t) l (Some w.value) e
   unfolding decided_at decided_in number_at
-  decided_yes w e g y r q = simp (← g, eq-eqb b 98 y) (record { part = ap Of r.part; rest = q ∙ rw r.rest })
+  decided_yes w e g y r q = simp (← g, eq-eqb b 98 y) (record { part = ap Some r.part; rest = q ∙ rw r.rest })
 
   pub decided_no : (e : ℕ) → b ≡ get_or t 2 0 → (b ≡ 98 → ⊥) → drop e l ≡ drop 19 t → Took (decided_at t) l None e
   unfolding decided_at decided_in
@@ -244,15 +200,15 @@ pub ruleset cause_cases = (cause_remaining, cause_word, cause_no_word, cause_not
 
 -- ---- all of them
 
-pub parts_are : (l t : List ℕ) (n : ℕ) (js : FoundJobs) (b : FoundOptional) (c : FoundNumber) (w : FoundOptional) (s : FoundNumber) (k : Cause)
-    → Took (jobs_at n t) l js.jobs js.at
+pub parts_are : (l t : List ℕ) (n : ℕ) (js : Found (List Held)) (b : Found (Option ℕ)) (c : Found ℕ) (w : Found (Option ℕ)) (s : Found ℕ) (k : Cause)
+    → Took (jobs_at n t) l js.value js.at
     → Took (brittle_at (drop js.at l)) l b.value b.at
     → Took (chosen_at (drop b.at l)) l c.value c.at
     → Took (decided_at (drop c.at l)) l w.value w.at
     → Took (number_at (drop 5 (drop w.at l))) l s.value s.at
     → k ≡ cause_in (drop s.at l)
     → record {
-      jobs = js.jobs;
+      jobs = js.value;
       count = n;
       brittle = b.value;
       chosen = c.value;

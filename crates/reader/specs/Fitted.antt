@@ -1,11 +1,9 @@
 -- Numbers cut to what 64 bits hold: what the code reads where a number is greater. Assumes nothing.
-use Rattle.std.specs.Prelude.{ℕ, zero, suc, ◌≤◌, ◌<◌, ◌^◌, min, ◌≡◌, refl, true, List, [], ◌∷◌, map, leb, length, get_or}
+use Rattle.std.specs.Prelude.{ℕ, zero, suc, ◌≤◌, ◌<◌, ◌^◌, min, ◌≡◌, refl, true, List, [], ◌∷◌, map, leb, length, get_or, None, Option, Some}
 use Rattle.std.proofs.Common.{ap, arith, ltb-true, lt-ltb, leb-true, le-leb}
 use Rattle.std.proofs.lemmas.List.{length-map}
 use Rattle.bounded.specs.Tests.{and-true}
 use Rattle.wording.specs.declared.Held.{Held}
-use Rattle.wording.specs.declared.Optional.{Optional}
-use Rattle.wording.specs.declared.Optional.TheVariants.{None, Of}
 use Rattle.wording.specs.Explanation.{Explanation, no_held, Fits, FitsJob}
 use Rattle.reader.specs.Reading.{small, small_jobs, small_optional, fits}
 
@@ -16,9 +14,9 @@ cut n = min n 18446744073709551615
 abbrev pub cut_job : Held → Held
 cut_job j = record { row = cut j.row; due = cut j.due; budget = cut j.budget; candidate = j.candidate }
 
-abbrev pub cut_optional : Optional → Optional
+abbrev pub cut_optional : Option ℕ → Option ℕ
 cut_optional None = None
-cut_optional (Of n) = Of (cut n)
+cut_optional (Some n) = Some (cut n)
 
 unfoldable pub cut_all : Explanation → Explanation
 cut_all e = record {
@@ -35,8 +33,8 @@ cut_all e = record {
 abbrev JobsFit : List Held → Type 0
 JobsFit l = (i : ℕ) → i < length l → FitsJob (get_or l i no_held)
 
-abbrev OptionalFits : Optional → Type 0
-OptionalFits o = (n : ℕ) → o ≡ Of n → n < 2 ^ 64
+abbrev OptionalFits : Option ℕ → Type 0
+OptionalFits o = (n : ℕ) → o ≡ Some n → n < 2 ^ 64
 
 jobs_true : (l : List Held) → small_jobs l ≡ true → JobsFit l
 unfolding small_jobs
@@ -51,9 +49,9 @@ jobs_true (j ∷ l) t (suc i) h =
     let b = and-true (small j.due) _ a.1 in
     jobs_true l (and-true (small j.budget) _ b.1).1 i (omega arith)
 
-optional_true : (o : Optional) → small_optional o ≡ true → OptionalFits o
+optional_true : (o : Option ℕ) → small_optional o ≡ true → OptionalFits o
 optional_true None t n e = let z : ◌≡◌ {A = ℕ} 0 1 = cc in absurd (omega arith)
-optional_true (Of m) t n e = let q : m ≡ n = cc in omega (arith, ltb-true m (2 ^ 64) t)
+optional_true (Some m) t n e = let q : m ≡ n = cc in omega (arith, ltb-true m (2 ^ 64) t)
 
 pub fits_true : (e : Explanation) → fits e ≡ true → Fits e
 unfolding fits
@@ -79,9 +77,9 @@ true_jobs (j ∷ l) f =
     let h : FitsJob j = f 0 (omega arith) in
     simp (lt-ltb _ _ h.row, lt-ltb _ _ h.due, lt-ltb _ _ h.budget, true_jobs l (λ i k. f (suc i) (omega arith)))
 
-true_optional : (o : Optional) → OptionalFits o → small_optional o ≡ true
+true_optional : (o : Option ℕ) → OptionalFits o → small_optional o ≡ true
 true_optional None f = refl
-true_optional (Of n) f = lt-ltb _ _ (f n refl)
+true_optional (Some n) f = lt-ltb _ _ (f n refl)
 
 pub true_fits : (e : Explanation) → Fits e → fits e ≡ true
 unfolding fits
@@ -108,9 +106,9 @@ cut_jobs [] i h = absurd (omega arith)
 cut_jobs (j ∷ l) zero h = record { row = small_cut j.row; due = small_cut j.due; budget = small_cut j.budget }
 cut_jobs (j ∷ l) (suc i) h = cut_jobs l i (omega arith)
 
-cut_optional_lem : (o : Optional) → OptionalFits (cut_optional o)
+cut_optional_lem : (o : Option ℕ) → OptionalFits (cut_optional o)
 cut_optional_lem None n e = let z : ◌≡◌ {A = ℕ} 0 1 = cc in absurd (omega arith)
-cut_optional_lem (Of m) n e = let q : cut m ≡ n = cc in omega (arith, small_cut m)
+cut_optional_lem (Some m) n e = let q : cut m ≡ n = cc in omega (arith, small_cut m)
 
 pub cut_fits : (e : Explanation) → length e.jobs ≤ 16 → Fits (cut_all e)
 unfolding cut_all
@@ -129,9 +127,9 @@ jobs_cut (j ∷ l) f =
     let h : FitsJob j = f 0 (omega arith) in
     rw (same_cut _ h.row, same_cut _ h.due, same_cut _ h.budget, jobs_cut l (λ i k. f (suc i) (omega arith)))
 
-optional_cut : (o : Optional) → OptionalFits o → cut_optional o ≡ o
+optional_cut : (o : Option ℕ) → OptionalFits o → cut_optional o ≡ o
 optional_cut None f = refl
-optional_cut (Of n) f = ap Of (same_cut n (f n refl))
+optional_cut (Some n) f = ap Some (same_cut n (f n refl))
 
 pub fits_cut : (e : Explanation) → Fits e → cut_all e ≡ e
 unfolding cut_all

@@ -1,14 +1,12 @@
 -- Which bytes are the text of an explanation, and of which one (docs/EXPLANATIONS.md). Definitions only. Assumes nothing.
-use Rattle.std.specs.Prelude.{ℕ, zero, suc, ◌^◌, Bool, true, false, ◌&&◌, cond, List, [], ◌∷◌, leb, ltb, eqb, length, drop, get_or}
+use Rattle.std.specs.Prelude.{ℕ, zero, suc, ◌^◌, Bool, true, false, ◌&&◌, cond, List, [], ◌∷◌, leb, ltb, eqb, length, drop, get_or, None, Option, Some}
 use Rattle.decimal.specs.Number.{is_digit, value_from}
 use Rattle.wording.specs.declared.Held.{Held}
-use Rattle.wording.specs.declared.Optional.{Optional}
-use Rattle.wording.specs.declared.Optional.TheVariants.{None, Of}
 use Rattle.wording.specs.declared.Cause.{Cause}
 use Rattle.wording.specs.declared.Cause.TheVariants.{Remaining, Word, NoWord, Nothing}
-use Rattle.wording.specs.Explanation.{Explanation, parts_of, no_parts}
+use Rattle.wording.specs.declared.Parts.{Parts}
+use Rattle.wording.specs.Explanation.{Explanation, parts_of}
 use Rattle.wording.specs.Text.{text_of}
-use Rattle.reader.specs.declared.Reading.{Reading}
 
 -- ---- as if the bytes were a text: a number is the digits in front, a phrase is skipped by its length, and one byte tells
 -- which phrase follows
@@ -57,9 +55,9 @@ jobs_in zero l = record { part = []; rest = l }
 jobs_in (suc n) l = record { part = (job_in l).part ∷ (jobs_in n (job_in l).rest).part; rest = (jobs_in n (job_in l).rest).rest }
 
 -- B begins the line of the brittle deadline
-unfoldable pub brittle_in : List ℕ → Part Optional
+unfoldable pub brittle_in : List ℕ → Part (Option ℕ)
 brittle_in l =
-    cond (is_byte 66 0 l) (record { part = Of (number_in (drop 17 l)); rest = drop 53 (after_digits (drop 17 l)) })
+    cond (is_byte 66 0 l) (record { part = Some (number_in (drop 17 l)); rest = drop 53 (after_digits (drop 17 l)) })
     (record { part = None; rest = l })
 
 -- i begins 'idle'
@@ -69,9 +67,9 @@ chosen_in l =
     (record { part = number_in (drop 12 l); rest = after_digits (drop 12 l) })
 
 -- b begins 'by word'
-unfoldable pub decided_in : List ℕ → Part Optional
+unfoldable pub decided_in : List ℕ → Part (Option ℕ)
 decided_in l =
-    cond (is_byte 98 2 l) (record { part = Of (number_in (drop 10 l)); rest = drop 2 (after_digits (drop 10 l)) })
+    cond (is_byte 98 2 l) (record { part = Some (number_in (drop 10 l)); rest = drop 2 (after_digits (drop 10 l)) })
     (record { part = None; rest = drop 19 l })
 
 -- the second letter of what set the span: t, e, h or o
@@ -107,9 +105,9 @@ unfoldable pub small_jobs : List Held → Bool
 small_jobs [] = true
 small_jobs (j ∷ l) = small j.row && (small j.due && (small j.budget && small_jobs l))
 
-abbrev pub small_optional : Optional → Bool
+abbrev pub small_optional : Option ℕ → Bool
 small_optional None = true
-small_optional (Of n) = small n
+small_optional (Some n) = small n
 
 -- whether 16 places and 64 bits hold it
 unfoldable pub fits : Explanation → Bool
@@ -131,10 +129,6 @@ same (a ∷ l) (b ∷ m) = eqb a b && same l m
 unfoldable pub is_text : List ℕ → Bool
 is_text l = fits (explanation_in l) && same (text_of (explanation_in l)) l
 
--- ---- what a reader answers
-
-abbrev pub not_found_lem : Reading
-not_found_lem = record { found = false; parts = no_parts }
-
-unfoldable pub reading_of : List ℕ → Reading
-reading_of l = cond (is_text l) (record { found = true; parts = parts_of (explanation_in l) }) not_found_lem
+-- what a reader answers: the parts, or none where the bytes are no text
+unfoldable pub reading_of : List ℕ → Option Parts
+reading_of l = cond (is_text l) (Some (parts_of (explanation_in l))) None

@@ -1,11 +1,11 @@
 -- The promises of Statement. Assumes nothing.
-use Rattle.std.specs.Prelude.{ℕ, ◌≤◌, ◌≡◌, true, List}
-use Rattle.std.proofs.Common.{sym, ap, ◌∙◌, true≢false, arith}
+use Rattle.std.specs.Prelude.{ℕ, ◌≤◌, ◌≡◌, true, List, Option, Some, None, is_some, unwrap_or}
+use Rattle.std.proofs.Common.{sym, ap, ◌∙◌, true≢false}
 use Rattle.std.proofs.lemmas.Bool.{false≢true}
 use Rattle.bounded.specs.Tests.{both, and-true}
-use Rattle.wording.specs.Explanation.{Explanation, Fits}
+use Rattle.wording.specs.declared.Parts.{Parts}
+use Rattle.wording.specs.Explanation.{Explanation, Fits, parts_of}
 use Rattle.wording.specs.Text.{text_of}
-use Rattle.reader.specs.declared.Reading.{Reading}
 use Rattle.reader.specs.Reading.{explanation_in, fits, same, is_text, reading_of}
 use Rattle.reader.specs.Back.{read_back}
 use Rattle.reader.specs.Same.{same_true, same_self}
@@ -31,21 +31,29 @@ read_text e f = simp (text_is e f, read_back e)
 pub same_text : SameText
 same_text e f q = sym (read_back e) ∙ ap explanation_in q ∙ read_back f
 
-pub reads_exactly : ReadsExactly
+-- parts are given of a text alone
+parts_given : (l : List ℕ) (p : Parts) → reading_of l ≡ Some p → (is_text l ≡ true) × (p ≡ parts_of (explanation_in l))
 unfolding reading_of
-reads_exactly l t =
+parts_given l p e =
     both (is_text l)
-    (λ y. let q = is_text_lem l y in record { explanation = explanation_in l; fits = q.0; parts = simp y; text = sym q.1 })
-    (λ n. absurd (false≢true (simp n at t)))
+    (λ y. let q : Some (parts_of (explanation_in l)) ≡ Some p = sym (simp y) ∙ e in (y, sym (ap (λ (o : Option Parts). unwrap_or o p) q)))
+    (λ n. let q : None ≡ Some p = sym (simp n) ∙ e in absurd (false≢true (ap is_some q)))
+
+pub reads_exactly : ReadsExactly
+reads_exactly l p e =
+    let g = parts_given l p e in
+    let q = is_text_lem l g.0 in
+    record { explanation = explanation_in l; fits = q.0; parts = g.1; text = sym q.1 }
 
 pub no_text : NoText
 unfolding reading_of
 no_text l n e f q =
     let y : is_text l ≡ true = ap is_text (sym q) ∙ text_is e f in
-    true≢false (simp y at n)
+    let z : Some (parts_of (explanation_in l)) ≡ None = sym (simp y) ∙ n in
+    true≢false (ap is_some z)
 
 -- for a caller who goes over the jobs
-pub reading_few : (l : List ℕ) (r : Reading) → r ≡ reading_of l → r.parts.count ≤ 16
-unfolding reading_of
-reading_few l r e =
-    rw e (both (is_text l) (λ y. simp y (is_text_lem l y).0.few) (λ n. simp n (omega arith)))
+pub reading_few : (l : List ℕ) (p : Parts) → Some p ≡ reading_of l → p.count ≤ 16
+reading_few l p e =
+    let g = parts_given l p (sym e) in
+    rw g.1 (is_text_lem l g.0).0.few

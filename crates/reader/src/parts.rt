@@ -6,36 +6,12 @@ ghost use Rattle.reader.specs.Reading.{past_holds_lem, candidate_in, cause_in, e
 ghost use Rattle.reader.specs.Fitted.{cut, cut_all};
 ghost use Rattle.reader.specs.Took.{Took, number_at, job_at, jobs_at, brittle_at, chosen_at, decided_at};
 
-use wording::{Cause, Held, Optional, Parts};
+use wording::{Cause, Held, Parts};
 
 // What was read, and the place past it.
 #[derive(Clone, Copy)]
-pub struct FoundNumber {
-    pub value: u64,
-    pub at: usize,
-}
-
-#[derive(Clone, Copy)]
-pub struct FoundFlag {
-    pub flag: bool,
-    pub at: usize,
-}
-
-#[derive(Clone, Copy)]
-pub struct FoundOptional {
-    pub value: Optional,
-    pub at: usize,
-}
-
-#[derive(Clone, Copy)]
-pub struct FoundJob {
-    pub job: Held,
-    pub at: usize,
-}
-
-#[derive(Clone, Copy)]
-pub struct FoundJobs {
-    pub jobs: [Held; 16],
+pub struct Found<T> {
+    pub value: T,
     pub at: usize,
 }
 
@@ -43,13 +19,7 @@ pub struct FoundJobs {
 pub fn skip(text: &[u8], at: usize, n: usize) -> usize
     ensures { drop result text.now ≡ drop n (drop at text.now) }
 {
-    if text.len() <= at {
-        return at;
-    }
-    if text.len() - at <= n {
-        return text.len();
-    }
-    at + n
+    at.saturating_add(n).min(text.len())
 }
 
 // The byte i places further, or 0.
@@ -57,10 +27,7 @@ fn byte(text: &[u8], at: usize, i: usize) -> u8
     ensures { result ≡ get_or (drop at text.now) i 0 }
 {
     let e = skip(text, at, i);
-    if text.len() <= e {
-        return 0;
-    }
-    text[e]
+    text.get(e).copied().unwrap_or(0)
 }
 
 // One more digit; the greatest u64 where the number is greater.
@@ -68,35 +35,29 @@ fn with_digit(value: u64, b: u8) -> u64
     requires { (48 ≤ b) × (b ≤ 57) }
     ensures { result ≡ cut (10 * value + (b - 48)) }
 {
-    let d = (b - 48) as u64;
-    if (18446744073709551615 - d) / 10 < value {
-        return 18446744073709551615;
-    }
-    10 * value + d
+    value.saturating_mul(10).saturating_add(u64::from(b - b'0'))
 }
 
 // The digits that stand here.
-fn read_number(text: &[u8], at: usize) -> FoundNumber
+fn read_number(text: &[u8], at: usize) -> Found<u64>
     ensures { Took (number_at (drop at text.now)) text.now result.value result.at }
 {
     let mut value: u64 = 0;
-    let mut i = at;
-    while i < text.len() {
+    for i in at..text.len() {
         let b = text[i];
-        if b < 48 {
-            return FoundNumber { value, at: i };
-        }
-        if 57 < b {
-            return FoundNumber { value, at: i };
+        if b < b'0' || b'9' < b {
+            return Found { value, at: i };
         }
         value = with_digit(value, b);
-        i = i + 1;
     }
-    FoundNumber { value, at: i }
+    Found {
+        value,
+        at: text.len(),
+    }
 }
 
 // The number after a phrase of n bytes.
-pub fn number_after(text: &[u8], at: usize, n: usize) -> FoundNumber
+pub fn number_after(text: &[u8], at: usize, n: usize) -> Found<u64>
     ensures { Took (number_at (drop n (drop at text.now))) text.now result.value result.at }
 {
     let e = skip(text, at, n);
@@ -108,122 +69,114 @@ fn past_holds(text: &[u8], at: usize) -> usize
     ensures { drop result text.now ≡ past_holds_lem (drop at text.now) }
 {
     let b = byte(text, at, 0);
-    if b == 32 {
+    if b == b' ' {
         return skip(text, at, 24);
     }
     at
 }
 
-fn read_candidate(text: &[u8], at: usize) -> FoundFlag
-    ensures { Took (candidate_in (drop at text.now)) text.now result.flag result.at }
+fn read_candidate(text: &[u8], at: usize) -> Found<bool>
+    ensures { Took (candidate_in (drop at text.now)) text.now result.value result.at }
 {
     let b = byte(text, at, 2);
-    if b == 99 {
+    if b == b'c' {
         let e = skip(text, at, 13);
-        return FoundFlag { flag: true, at: e };
+        return Found { value: true, at: e };
     }
     let e = skip(text, at, 19);
-    FoundFlag { flag: false, at: e }
+    Found {
+        value: false,
+        at: e,
+    }
 }
 
-fn read_job(text: &[u8], at: usize) -> FoundJob
-    ensures { Took (job_at (drop at text.now)) text.now result.job result.at }
+fn read_job(text: &[u8], at: usize) -> Found<Held>
+    ensures { Took (job_at (drop at text.now)) text.now result.value result.at }
 {
     let row = number_after(text, at, 4);
     let due = number_after(text, row.at, 9);
     let budget = number_after(text, due.at, 9);
     let e = past_holds(text, budget.at);
-    let end = read_candidate(text, e);
-    let job = Held {
+    let candidate = read_candidate(text, e);
+    let value = Held {
         row: row.value,
         due: due.value,
         budget: budget.value,
-        candidate: end.flag,
+        candidate: candidate.value,
     };
-    FoundJob { job, at: end.at }
-}
-
-fn read_jobs(text: &[u8], at: usize, count: usize) -> FoundJobs
-    requires { count ≤ 16 }
-    ensures { Took (jobs_at count (drop at text.now)) text.now result.jobs result.at }
-{
-    let mut jobs = [Held {
-        row: 0,
-        due: 0,
-        budget: 0,
-        candidate: false,
-    }; 16];
-    let mut e = at;
-    let mut i: usize = 0;
-    while i < count {
-        let f = read_job(text, e);
-        let j = f.job;
-        jobs[i] = j;
-        e = f.at;
-        i = i + 1;
+    Found {
+        value,
+        at: candidate.at,
     }
-    FoundJobs { jobs, at: e }
 }
 
-fn read_brittle(text: &[u8], at: usize) -> FoundOptional
+fn read_jobs(text: &[u8], at: usize, count: usize) -> Found<[Held; 16]>
+    requires { count ≤ 16 }
+    ensures { Took (jobs_at count (drop at text.now)) text.now result.value result.at }
+{
+    let p = Parts::none();
+    let mut jobs = p.jobs;
+    let mut e = at;
+    for i in 0..count {
+        let job = read_job(text, e);
+        jobs[i] = job.value;
+        e = job.at;
+    }
+    Found { value: jobs, at: e }
+}
+
+fn read_brittle(text: &[u8], at: usize) -> Found<Option<u64>>
     ensures { Took (brittle_at (drop at text.now)) text.now result.value result.at }
 {
     let b = byte(text, at, 0);
-    if b == 66 {
+    if b == b'B' {
         let d = number_after(text, at, 17);
         let e = skip(text, d.at, 53);
-        let value = Optional::Of(d.value);
-        return FoundOptional { value, at: e };
+        return Found {
+            value: Some(d.value),
+            at: e,
+        };
     }
-    FoundOptional {
-        value: Optional::None,
-        at,
-    }
+    Found { value: None, at }
 }
 
 // 16 for idle.
-fn read_chosen(text: &[u8], at: usize) -> FoundNumber
+fn read_chosen(text: &[u8], at: usize) -> Found<u64>
     ensures { Took (chosen_at (drop at text.now)) text.now result.value result.at }
 {
     let b = byte(text, at, 8);
-    if b == 105 {
+    if b == b'i' {
         let e = skip(text, at, 12);
-        return FoundNumber { value: 16, at: e };
+        return Found { value: 16, at: e };
     }
     number_after(text, at, 12)
 }
 
-fn read_decided(text: &[u8], at: usize) -> FoundOptional
+fn read_decided(text: &[u8], at: usize) -> Found<Option<u64>>
     ensures { Took (decided_at (drop at text.now)) text.now result.value result.at }
 {
     let b = byte(text, at, 2);
-    if b == 98 {
+    if b == b'b' {
         let w = number_after(text, at, 10);
         let e = skip(text, w.at, 2);
-        let value = Optional::Of(w.value);
-        return FoundOptional { value, at: e };
+        return Found {
+            value: Some(w.value),
+            at: e,
+        };
     }
     let e = skip(text, at, 19);
-    FoundOptional {
-        value: Optional::None,
-        at: e,
-    }
+    Found { value: None, at: e }
 }
 
 fn read_cause(text: &[u8], at: usize) -> Cause
     ensures { result ≡ cause_in (drop at text.now) }
 {
-    let b = byte(text, at, 3);
-    if b == 116 {
-        return Cause::Remaining;
+    match byte(text, at, 3) {
+        b't' => Cause::Remaining,
+        b'e' => Cause::Word,
+        b'h' => Cause::NoWord,
+        _ => Cause::Nothing,
     }
-    if b == 101 {
-        return Cause::Word;
-    }
-    if b == 104 {
-        return Cause::NoWord;
-    }
-    Cause::Nothing
 }
 
 // All that follows the line that counts the jobs.
@@ -232,21 +185,19 @@ pub fn read_parts(text: &[u8], at: usize, count: usize) -> Parts
     ensures { result ≡ parts_of (cut_all (explanation_from count (drop at text.now))) }
 {
     let js = read_jobs(text, at, count);
-    let b = read_brittle(text, js.at);
-    let c = read_chosen(text, b.at);
-    let w = read_decided(text, c.at);
-    let s = number_after(text, w.at, 5);
-    let cause = read_cause(text, s.at);
-    let jobs = js.jobs;
-    let brittle = b.value;
-    let decided = w.value;
+    let jobs = js.value;
+    let brittle = read_brittle(text, js.at);
+    let chosen = read_chosen(text, brittle.at);
+    let decided = read_decided(text, chosen.at);
+    let span = number_after(text, decided.at, 5);
+    let cause = read_cause(text, span.at);
     Parts {
         jobs,
         count,
-        brittle,
-        chosen: c.value,
-        decided,
-        span: s.value,
+        brittle: brittle.value,
+        chosen: chosen.value,
+        decided: decided.value,
+        span: span.value,
         cause,
     }
 }

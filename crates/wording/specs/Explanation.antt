@@ -1,8 +1,6 @@
 -- What an explanation holds (docs/EXPLANATIONS.md). Definitions only. Assumes nothing.
-use Rattle.std.specs.Prelude.{ℕ, ◌-◌, ◌≤◌, ◌<◌, ◌^◌, ◌≡◌, false, List, [], ◌++◌, length, get_or, take, replicate}
+use Rattle.std.specs.Prelude.{ℕ, ◌-◌, ◌≤◌, ◌<◌, ◌^◌, ◌≡◌, false, List, [], ◌++◌, length, get_or, take, replicate, None, Option, Some}
 use Rattle.wording.specs.declared.Held.{Held}
-use Rattle.wording.specs.declared.Optional.{Optional}
-use Rattle.wording.specs.declared.Optional.TheVariants.{None, Of}
 use Rattle.wording.specs.declared.Cause.{Cause}
 use Rattle.wording.specs.declared.Cause.TheVariants.{Nothing}
 use Rattle.wording.specs.declared.Parts.{Parts}
@@ -11,9 +9,9 @@ use Rattle.wording.specs.declared.Parts.{Parts}
 -- the span, and what set it
 pub record Explanation : Type 0 where
   pub jobs : List Held
-  pub brittle : Optional
+  pub brittle : Option ℕ
   pub chosen : ℕ
-  pub decided : Optional
+  pub decided : Option ℕ
   pub span : ℕ
   pub cause : Cause
 
@@ -62,7 +60,7 @@ pub record FitsJob (j : Held) : Type 0 where
 pub record Fits (e : Explanation) : Type 0 where
   pub few : length e.jobs ≤ 16
   pub jobs : (i : ℕ) → i < length e.jobs → FitsJob (get_or e.jobs i no_held)
-  pub brittle : (n : ℕ) → e.brittle ≡ Of n → n < 2 ^ 64
+  pub brittle : (n : ℕ) → e.brittle ≡ Some n → n < 2 ^ 64
   pub chosen : e.chosen < 2 ^ 64
-  pub decided : (n : ℕ) → e.decided ≡ Of n → n < 2 ^ 64
+  pub decided : (n : ℕ) → e.decided ≡ Some n → n < 2 ^ 64
   pub span : e.span < 2 ^ 64

@@ -1,10 +1,8 @@
 -- The text of an explanation in the pieces that the code writes. Assumes nothing.
-use Rattle.std.specs.Prelude.{ℕ, ◌≤◌, ◌≡◌, refl, Bool, true, false, cond, List, [], ◌∷◌, ◌++◌, eqb, length, drop}
+use Rattle.std.specs.Prelude.{ℕ, ◌≤◌, ◌≡◌, refl, Bool, true, false, cond, List, [], ◌∷◌, ◌++◌, eqb, length, drop, None, Option, Some}
 use Rattle.std.proofs.Common.{append_assoc, arith}
 use Rattle.decimal.specs.Decimal.{decimal}
 use Rattle.wording.specs.declared.Held.{Held}
-use Rattle.wording.specs.declared.Optional.{Optional}
-use Rattle.wording.specs.declared.Optional.TheVariants.{None, Of}
 use Rattle.wording.specs.declared.Cause.{Cause}
 use Rattle.wording.specs.declared.Cause.TheVariants.{Remaining, Word, NoWord, Nothing}
 use Rattle.wording.specs.Explanation.{Explanation}
@@ -38,7 +36,7 @@ waiting_text l = count_text (length l) ++ jobs_text l
 
 -- ---- the other lines
 
-abbrev pub choice_text : ℕ → Optional → List ℕ
+abbrev pub choice_text : ℕ → Option ℕ → List ℕ
 choice_text c o = chosen_text c ++ decided_text o
 
 abbrev pub span_text : ℕ → Cause → List ℕ
@@ -50,9 +48,9 @@ pub candidate_colon : (b : Bool) → 58 ∷ rest (candidate_text b) ≡ candidat
 candidate_colon true = refl
 candidate_colon false = refl
 
-pub decided_comma : (o : Optional) → 44 ∷ rest (decided_text o) ≡ decided_text o
+pub decided_comma : (o : Option ℕ) → 44 ∷ rest (decided_text o) ≡ decided_text o
 decided_comma None = refl
-decided_comma (Of n) = refl
+decided_comma (Some n) = refl
 
 pub cause_colon : (c : Cause) → 58 ∷ rest (cause_text c) ≡ cause_text c
 cause_colon Remaining = refl

@@ -1,9 +1,7 @@
 -- The text of an explanation (docs/EXPLANATIONS.md). Definitions only. Assumes nothing.
-use Rattle.std.specs.Prelude.{ℕ, cond, List, [], ◌∷◌, ◌++◌, eqb, length}
+use Rattle.std.specs.Prelude.{ℕ, cond, List, [], ◌∷◌, ◌++◌, eqb, length, None, Option, Some}
 use Rattle.decimal.specs.Decimal.{decimal}
 use Rattle.wording.specs.declared.Held.{Held}
-use Rattle.wording.specs.declared.Optional.{Optional}
-use Rattle.wording.specs.declared.Optional.TheVariants.{None, Of}
 use Rattle.wording.specs.declared.Cause.{Cause}
 use Rattle.wording.specs.declared.Cause.TheVariants.{Remaining, Word, NoWord, Nothing}
 use Rattle.wording.specs.Explanation.{Explanation}
@@ -20,17 +18,17 @@ unfoldable pub jobs_text : List Held → List ℕ
 jobs_text [] = []
 jobs_text (j ∷ l) = job_text j ++ jobs_text l
 
-abbrev pub brittle_text : Optional → List ℕ
+abbrev pub brittle_text : Option ℕ → List ℕ
 brittle_text None = []
-brittle_text (Of d) = p.brittle_from ++ decimal d ++ p.brittle_to
+brittle_text (Some d) = p.brittle_from ++ decimal d ++ p.brittle_to
 
 -- 16 is idle
 unfoldable pub chosen_text : ℕ → List ℕ
 chosen_text c = cond (eqb c 16) p.chosen_idle (p.chosen_row ++ decimal c)
 
-abbrev pub decided_text : Optional → List ℕ
+abbrev pub decided_text : Option ℕ → List ℕ
 decided_text None = p.no_word
-decided_text (Of w) = p.by_word ++ decimal w ++ p.stop
+decided_text (Some w) = p.by_word ++ decimal w ++ p.stop
 
 abbrev pub cause_text : Cause → List ℕ
 cause_text Remaining = p.by_remaining

@@ -1,11 +1,9 @@
 -- The proofs of what `Statement` says. Assumes nothing.
-use Rattle.std.specs.Prelude.{ℕ, suc, ◌+◌, ◌*◌, ◌≤◌, ◌<◌, ◌^◌, ◌≡◌, refl, cond, List, [], ◌∷◌, eqb, length, get_or}
+use Rattle.std.specs.Prelude.{ℕ, suc, ◌+◌, ◌*◌, ◌≤◌, ◌<◌, ◌^◌, ◌≡◌, refl, cond, List, [], ◌∷◌, eqb, length, get_or, None, Option, Some}
 use Rattle.std.proofs.Common.{arith, length-append, eqb-true}
 use Rattle.bounded.specs.Tests.{both}
 use Rattle.decimal.specs.Decimal.{decimal, decimal_in, decimal_twenty}
 use Rattle.wording.specs.declared.Held.{Held}
-use Rattle.wording.specs.declared.Optional.{Optional}
-use Rattle.wording.specs.declared.Optional.TheVariants.{None, Of}
 use Rattle.wording.specs.Explanation.{no_held, FitsJob}
 use Rattle.wording.specs.Phrases as p
 use Rattle.wording.specs.Text.{job_text, jobs_text, brittle_text, chosen_text, decided_text, text_of}
@@ -33,17 +31,17 @@ unfolding jobs_text
 jobs_short [] f = omega arith
 jobs_short (j ∷ l) f = rw length-append (omega (arith, job_short j (f 0 (omega arith)), jobs_short l (λ i h. f (suc i) (omega arith))))
 
-brittle_short : (o : Optional) → ((n : ℕ) → o ≡ Of n → n < 2 ^ 64) → length (brittle_text o) ≤ 90
+brittle_short : (o : Option ℕ) → ((n : ℕ) → o ≡ Some n → n < 2 ^ 64) → length (brittle_text o) ≤ 90
 brittle_short None f = omega arith
-brittle_short (Of n) f = simp length-append (omega (arith, decimal_twenty n (f n refl)))
+brittle_short (Some n) f = simp length-append (omega (arith, decimal_twenty n (f n refl)))
 
 chosen_short : (c : ℕ) → c < 2 ^ 64 → length (chosen_text c) ≤ 32
 unfolding chosen_text
 chosen_short c h = both (eqb c 16) (λ e. rw e (omega arith)) (λ e. rw e (simp length-append (omega (arith, decimal_twenty c h))))
 
-decided_short : (o : Optional) → ((n : ℕ) → o ≡ Of n → n < 2 ^ 64) → length (decided_text o) ≤ 32
+decided_short : (o : Option ℕ) → ((n : ℕ) → o ≡ Some n → n < 2 ^ 64) → length (decided_text o) ≤ 32
 decided_short None f = omega arith
-decided_short (Of n) f = simp length-append (omega (arith, decimal_twenty n (f n refl)))
+decided_short (Some n) f = simp length-append (omega (arith, decimal_twenty n (f n refl)))
 
 -- ---- and so is the whole
 

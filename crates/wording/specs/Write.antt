@@ -1,16 +1,15 @@
 -- The text of an explanation written into a lent buffer: what the code of `src/text.rt` needs. Assumes nothing.
-use Rattle.std.specs.Prelude.{ℕ, ◌+◌, ◌*◌, ◌≤◌, ◌<◌, ◌≡◌, refl, Bool, List, [], ◌∷◌, ◌++◌, length, take, get_or}
-use Rattle.std.proofs.Common.{sym, ap, ◌∙◌, append_assoc, append-nil, add-one, arith, take-suc, length-take-le, eq-eqb, ne_eqb}
+use Rattle.std.specs.Prelude.{ℕ, ◌+◌, ◌*◌, ◌≤◌, ◌<◌, ◌≡◌, refl, List, [], ◌∷◌, ◌++◌, length, take, get_or, None, Option, Some}
+use Rattle.std.proofs.Common.{sym, ap, ◌∙◌, append_assoc, append-nil, add-one, arith, take-suc, eq-eqb, ne_eqb}
+use Rattle.std.proofs.Math.Seq.{take-length}
 use Rattle.decimal.specs.Decimal.{decimal, decimal_in}
 use Rattle.decimal.specs.Buffer.{Wrote, wrote_none, wrote_length, wrote_more, wrote_within}
 use Rattle.wording.specs.declared.Held.{Held}
-use Rattle.wording.specs.declared.Optional.{Optional}
-use Rattle.wording.specs.declared.Optional.TheVariants.{None, Of}
 use Rattle.wording.specs.declared.Cause.{Cause}
 use Rattle.wording.specs.Explanation.{Explanation, no_held}
 use Rattle.wording.specs.Phrases as p
 use Rattle.wording.specs.Text.{job_text, jobs_text, brittle_text, chosen_text, decided_text, cause_text, text_of}
-use Rattle.wording.specs.Pieces.{rest, value_text, budget_text, candidate_text, count_text, waiting_text, choice_text, span_text, candidate_colon, candidate_short, decided_comma, cause_colon, cause_short, job_pieces, text_pieces}
+use Rattle.wording.specs.Pieces.{rest, value_text, budget_text, candidate_text, count_text, waiting_text, choice_text, span_text, decided_comma, cause_colon, job_pieces, text_pieces}
 
 -- ---- one piece after another
 
@@ -41,12 +40,6 @@ module _ (n at q : ℕ) (d e : List ℕ) where
 
 pub ruleset budget_cases = (budget_none, budget_some)
 
--- ---- `put_candidate`
-
-pub candidate_is : (b k : Bool) (d e : List ℕ) (at q : ℕ) → b ≡ k → Wrote (length (rest (candidate_text k))) (rest (candidate_text k)) d e at q
-    → Wrote 18 (rest (candidate_text b)) d e at q
-candidate_is b k d e at q s w = rw s (wrote_within _ 18 _ d e at q (omega (arith, candidate_short k, ap length (candidate_colon k))) w)
-
 -- ---- `put_job`
 
 pub job_is : (j : Held) (d₀ d₁ d₂ d₃ d₄ d₅ : List ℕ) (a₀ a₁ a₂ a₃ a₄ a₅ : ℕ) → a₀ + 106 ≤ length d₀
@@ -76,23 +69,21 @@ jobs_next [] j = simp append-nil
 jobs_next (i ∷ l) j = rw (jobs_next l j, append_assoc)
 
 -- what the code requires, and that the lines of the first i jobs were written; q is the place past them
-pub record Listed (jobs : List Held) (count : ℕ) (d : List ℕ) (at i : ℕ) (e : List ℕ) (q : ℕ) : Type 0 where
-  pub few : count ≤ 16
-  pub places : length jobs ≡ 16
+pub record Listed (jobs : List Held) (d : List ℕ) (at i : ℕ) (e : List ℕ) (q : ℕ) : Type 0 where
+  pub few : length jobs ≤ 16
   pub room : at + 1696 ≤ length d
-  pub within : i ≤ count
+  pub within : i ≤ length jobs
   pub same : length e ≡ length d
   pub text : Wrote (106 * i) (jobs_text (take i jobs)) d e at q
 
-module _ (jobs : List Held) (count : ℕ) (d : List ℕ) (at : ℕ) where
-  pub listed_next : (i : ℕ) (e : List ℕ) (q : ℕ) → Listed jobs count d at i e q → (j : Held) (f : List ℕ) (r : ℕ) → i < count → Wrote 106 (job_text j) e f q r
-      → j ≡ get_or jobs i no_held → Listed jobs count d at (i + 1) f r
+module _ (jobs : List Held) (d : List ℕ) (at : ℕ) where
+  pub listed_next : (i : ℕ) (e : List ℕ) (q : ℕ) → Listed jobs d at i e q → (j : Held) (f : List ℕ) (r : ℕ) → i < length jobs → Wrote 106 (job_text j) e f q r
+      → j ≡ get_or jobs i no_held → Listed jobs d at (i + 1) f r
   listed_next i e q x j f r h w s =
       let next : take (i + 1) jobs ≡ take i jobs ++ j ∷ [] = rw (s, add-one i) (take-suc jobs i no_held (omega arith)) in
       let t = x.text in
       record {
         few = x.few;
-        places = x.places;
         room = x.room;
         within = omega arith;
         same = wrote_length 106 (job_text j) e f q r (omega arith) w ∙ x.same;
@@ -100,33 +91,32 @@ module _ (jobs : List Held) (count : ℕ) (d : List ℕ) (at : ℕ) where
       }
 
   -- after the line that counts them
-  module _ (d₀ : List ℕ) (a₀ : ℕ) (room : a₀ + 1732 ≤ length d₀) (w : Wrote 36 (count_text count) d₀ d a₀ at) where
-    pub listed_start : count ≤ 16 → length jobs ≡ 16 → Listed jobs count d at 0 d at
+  module _ (d₀ : List ℕ) (a₀ : ℕ) (room : a₀ + 1732 ≤ length d₀) (w : Wrote 36 (count_text (length jobs)) d₀ d a₀ at) where
+    pub listed_start : length jobs ≤ 16 → Listed jobs d at 0 d at
     unfolding jobs_text
-    listed_start few places = record {
+    listed_start few = record {
       few = few;
-      places = places;
-      room = omega (arith, wrote_length 36 (count_text count) d₀ d a₀ at (omega (arith, w.short)) w);
+      room = omega (arith, wrote_length 36 (count_text (length jobs)) d₀ d a₀ at (omega (arith, w.short)) w);
       within = omega arith;
       same = refl;
       text = wrote_none 0 d at;
     }
 
-    pub listed_all : (i : ℕ) (e : List ℕ) (q : ℕ) → Listed jobs count d at i e q → count ≤ i → Wrote 1732 (waiting_text (take count jobs)) d₀ e a₀ q
+    pub listed_all : (i : ℕ) (e : List ℕ) (q : ℕ) → Listed jobs d at i e q → length jobs ≤ i → Wrote 1732 (waiting_text jobs) d₀ e a₀ q
     listed_all i e q x h =
-        let all : i ≡ count = omega arith in
-        let number : length (take count jobs) ≡ count = length-take-le count jobs (omega arith) in
-        wrote_as (omega arith) (rw (number, all)) (wrote_then (omega arith) w x.text)
+        let all : i ≡ length jobs = omega (arith, x.within) in
+        let text = rw (all, take-length jobs) at x.text in
+        wrote_then (omega arith) w (wrote_within _ 1696 _ _ _ _ _ (omega (arith, x.few)) text)
 
 pub ruleset listed_laws = (listed_start, listed_next, listed_all)
 
 -- ---- `put_brittle`
 
-module _ (b : Optional) (d : List ℕ) (at : ℕ) where
+module _ (b : Option ℕ) (d : List ℕ) (at : ℕ) where
   pub brittle_none : b ≡ None → Wrote 90 (brittle_text b) d d at at
   brittle_none h = rw h (wrote_none 90 d at)
 
-  pub brittle_some : (n : ℕ) (e f : List ℕ) (q r : ℕ) → at + 90 ≤ length d → b ≡ Of n → Wrote 38 (value_text p.brittle_from n 58) d e at q
+  pub brittle_some : (n : ℕ) (e f : List ℕ) (q r : ℕ) → at + 90 ≤ length d → b ≡ Some n → Wrote 38 (value_text p.brittle_from n 58) d e at q
       → Wrote 52 (rest p.brittle_to) e f q r → Wrote 90 (brittle_text b) d f at r
   brittle_some n e f q r room s v w = rw s (wrote_as (omega arith) (simp append_assoc) (wrote_then (omega arith) v w))
 
@@ -147,28 +137,18 @@ pub ruleset chosen_cases = (chosen_idle_lem, chosen_row_lem)
 
 -- ---- `put_decided`
 
-module _ (o : Optional) (d e : List ℕ) (at q : ℕ) where
-  pub decided_none : o ≡ None → Wrote 18 (rest p.no_word) d e at q → Wrote 31 (rest (decided_text o)) d e at q
-  decided_none s w = rw s (wrote_within 18 31 _ d e at q (omega arith) w)
-
-  pub decided_some : (n : ℕ) (f : List ℕ) (r : ℕ) → at + 31 ≤ length d → o ≡ Of n → Wrote 30 (value_text (rest p.by_word) n 46) d e at q
-      → Wrote 1 (10 ∷ []) e f q r → Wrote 31 (rest (decided_text o)) d f at r
-  decided_some n f r room s v w = rw s (wrote_as (omega arith) (simp append_assoc) (wrote_then (omega arith) v w))
-
-pub ruleset decided_cases = (decided_none, decided_some)
+pub decided_some : (o : Option ℕ) (n : ℕ) (d e f : List ℕ) (at q r : ℕ) → at + 31 ≤ length d → o ≡ Some n
+    → Wrote 30 (value_text (rest p.by_word) n 46) d e at q
+    → Wrote 1 (10 ∷ []) e f q r
+    → Wrote 31 (rest (decided_text o)) d f at r
+decided_some o n d e f at q r room s v w = rw s (wrote_as (omega arith) (simp append_assoc) (wrote_then (omega arith) v w))
 
 -- ---- `put_choice`
 
-pub choice_is : (c : ℕ) (o : Optional) (d e f : List ℕ) (at q r : ℕ) → at + 64 ≤ length d → Wrote 33 (chosen_text c ++ 44 ∷ []) d e at q
+pub choice_is : (c : ℕ) (o : Option ℕ) (d e f : List ℕ) (at q r : ℕ) → at + 64 ≤ length d → Wrote 33 (chosen_text c ++ 44 ∷ []) d e at q
     → Wrote 31 (rest (decided_text o)) e f q r → Wrote 64 (choice_text c o) d f at r
 choice_is c o d e f at q r room v w =
     wrote_as (omega arith) (rw append_assoc (ap (λ (l : List ℕ). chosen_text c ++ l) (decided_comma o))) (wrote_then (omega arith) v w)
-
--- ---- `put_cause`
-
-pub cause_is : (c k : Cause) (d e : List ℕ) (at q : ℕ) → c ≡ k → Wrote (length (rest (cause_text k))) (rest (cause_text k)) d e at q
-    → Wrote 39 (rest (cause_text c)) d e at q
-cause_is c k d e at q s w = rw s (wrote_within _ 39 _ d e at q (omega (arith, cause_short k, ap length (cause_colon k))) w)
 
 -- ---- `put_span`
 

@@ -15,13 +15,6 @@ pub struct Held {
     pub candidate: bool,
 }
 
-// A number, or none.
-#[derive(Clone, Copy)]
-pub enum Optional {
-    None,
-    Of(u64),
-}
-
 // What set a span: the remaining ticks, a word, the lack of a word, or that nothing waits.
 #[derive(Clone, Copy)]
 pub enum Cause {
@@ -37,9 +30,9 @@ pub enum Cause {
 pub struct Parts {
     pub jobs: [Held; 16],
     pub count: usize,
-    pub brittle: Optional,
+    pub brittle: Option<u64>,
     pub chosen: u64,
-    pub decided: Optional,
+    pub decided: Option<u64>,
     pub span: u64,
     pub cause: Cause,
 }
@@ -57,9 +50,9 @@ impl Parts {
                 candidate: false,
             }; 16],
             count: 0,
-            brittle: Optional::None,
+            brittle: None,
             chosen: 0,
-            decided: Optional::None,
+            decided: None,
             span: 0,
             cause: Cause::Nothing,
         }

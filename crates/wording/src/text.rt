@@ -6,7 +6,7 @@ ghost use Rattle.wording.specs.Explanation.{held_in};
 ghost use Rattle.wording.specs.Text.{job_text, brittle_text, chosen_text, decided_text, cause_text, text_of};
 ghost use Rattle.wording.specs.Pieces.{rest, value_text, budget_text, candidate_text, count_text, waiting_text, choice_text, span_text};
 
-use super::{Cause, Held, Optional, Parts};
+use super::{Cause, Held, Parts};
 use decimal::write::{put_byte, put_number};
 
 // The bytes of a phrase.
@@ -14,12 +14,9 @@ fn put_bytes(out: &mut [u8], at: usize, phrase: &[u8]) -> usize
     requires { at + length phrase.now ≤ length out.old }
     ensures { Wrote (length phrase.now) phrase.now out.old out.new at result }
 {
-    let mut i: usize = 0;
-    while i < phrase.len() {
-        out[at + i] = phrase[i];
-        i = i + 1;
-    }
-    at + i
+    let e = at + phrase.len();
+    out[at..e].copy_from_slice(phrase);
+    e
 }
 
 // A phrase, a number and the byte after it.
@@ -74,28 +71,26 @@ fn put_count(out: &mut [u8], at: usize, count: u64) -> usize
     put_byte(out, e, b'\n')
 }
 
-// That line, and one for each job: those in the first `count` places.
-fn put_jobs(out: &mut [u8], at: usize, jobs: [Held; 16], count: usize) -> usize
-    requires { (count ≤ 16) × (at + 1732 ≤ length out.old) }
-    ensures { Wrote 1732 (waiting_text (take count jobs)) out.old out.new at result }
+// That line, and one for each job.
+fn put_jobs(out: &mut [u8], at: usize, jobs: &[Held]) -> usize
+    requires { (length jobs.now ≤ 16) × (at + 1732 ≤ length out.old) }
+    ensures { Wrote 1732 (waiting_text jobs.now) out.old out.new at result }
 {
-    let mut e = put_count(out, at, count as u64);
-    let mut i: usize = 0;
-    while i < count {
-        e = put_job(out, e, jobs[i]);
-        i = i + 1;
+    let mut e = put_count(out, at, jobs.len() as u64);
+    for &j in jobs {
+        e = put_job(out, e, j);
     }
     e
 }
 
 // The line of the brittle deadline, in a mixed session.
-fn put_brittle(out: &mut [u8], at: usize, brittle: Optional) -> usize
+fn put_brittle(out: &mut [u8], at: usize, brittle: Option<u64>) -> usize
     requires { at + 90 ≤ length out.old }
     ensures { Wrote 90 (brittle_text brittle) out.old out.new at result }
 {
     match brittle {
-        Optional::None => at,
-        Optional::Of(d) => {
+        None => at,
+        Some(d) => {
             let e = put_value(out, at, b"Brittle deadline ", d, b':');
             put_bytes(
                 out,
@@ -118,13 +113,13 @@ fn put_chosen(out: &mut [u8], at: usize, chosen: u64) -> usize
 }
 
 // The deciding word, or that there is none, after the comma.
-fn put_decided(out: &mut [u8], at: usize, decided: Optional) -> usize
+fn put_decided(out: &mut [u8], at: usize, decided: Option<u64>) -> usize
     requires { at + 31 ≤ length out.old }
     ensures { Wrote 31 (rest (decided_text decided)) out.old out.new at result }
 {
     match decided {
-        Optional::None => put_bytes(out, at, b" no word decided.\n"),
-        Optional::Of(w) => {
+        None => put_bytes(out, at, b" no word decided.\n"),
+        Some(w) => {
             let e = put_value(out, at, b" by word ", w, b'.');
             put_byte(out, e, b'\n')
         }
@@ -132,7 +127,7 @@ fn put_decided(out: &mut [u8], at: usize, decided: Optional) -> usize
 }
 
 // The line of the choice.
-fn put_choice(out: &mut [u8], at: usize, chosen: u64, decided: Optional) -> usize
+fn put_choice(out: &mut [u8], at: usize, chosen: u64, decided: Option<u64>) -> usize
     requires { at + 64 ≤ length out.old }
     ensures { Wrote 64 (choice_text chosen decided) out.old out.new at result }
 {
@@ -168,12 +163,8 @@ pub fn put_text(out: &mut [u8], at: usize, p: Parts) -> usize
     requires { (p.count ≤ 16) × (at + 1951 ≤ length out.old) }
     ensures { Wrote 1951 (text_of (held_in p)) out.old out.new at result }
 {
-    let jobs = p.jobs;
-    let brittle = p.brittle;
-    let decided = p.decided;
-    let cause = p.cause;
-    let e = put_jobs(out, at, jobs, p.count);
-    let f = put_brittle(out, e, brittle);
-    let g = put_choice(out, f, p.chosen, decided);
-    put_span(out, g, p.span, cause)
+    let e = put_jobs(out, at, &p.jobs[..p.count]);
+    let f = put_brittle(out, e, p.brittle);
+    let g = put_choice(out, f, p.chosen, p.decided);
+    put_span(out, g, p.span, p.cause)
 }

@@ -8,8 +8,5 @@ returns-then-count-gt16 c = search (rules, read_cases)
 pub tells-requires : goal.tells-requires
 tells-requires c = search (rules, count_few)
 
-pub returns-then-tells : goal.returns-then-tells
-returns-then-tells c = search (rules, read_cases)
-
 pub returns : goal.returns
 returns c = search (rules, read_cases)

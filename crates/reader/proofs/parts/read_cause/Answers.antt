@@ -2,14 +2,14 @@ use Rattle.reader.specs.Code.{cause_cases}
 use borrow.Author.Rules.{rules}
 use Rattle.reader.proofs.parts.read_cause.Goals as goal
 
-pub returns-then-b-eq116 : goal.returns-then-b-eq116
-returns-then-b-eq116 c = search (rules, cause_cases)
+pub returns-in-116 : goal.returns-in-116
+returns-in-116 c = search (rules, cause_cases)
 
-pub returns-then-b-eq101 : goal.returns-then-b-eq101
-returns-then-b-eq101 c = search (rules, cause_cases)
+pub returns-in-101 : goal.returns-in-101
+returns-in-101 c = search (rules, cause_cases)
 
-pub returns-then-b-eq104 : goal.returns-then-b-eq104
-returns-then-b-eq104 c = search (rules, cause_cases)
+pub returns-in-104 : goal.returns-in-104
+returns-in-104 c = search (rules, cause_cases)
 
-pub returns : goal.returns
-returns c = search (rules, cause_cases)
+pub returns-in_default : goal.returns-in_default
+returns-in_default c = search (rules, cause_cases)

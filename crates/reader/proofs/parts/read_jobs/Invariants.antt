@@ -1,9 +1,6 @@
-use Rattle.std.proofs.Common.{drop, ◌-◌, ◌≤◌}
+use Rattle.std.proofs.Common.{drop}
 use Rattle.reader.specs.Took.{Took, jobs_at}
 use Rattle.reader.proofs.parts.read_jobs.Given as goal
 
 abbrev pub invariant-loop-i : goal.invariant-loop-i
-invariant-loop-i l = (l.i ≤ l.count) × Took (jobs_at l.i (drop l.at l.text)) l.text l.jobs l.e
-
-abbrev pub decreases-loop-i : goal.decreases-loop-i
-decreases-loop-i l = l.count - l.i
+invariant-loop-i l = Took (jobs_at l.i (drop l.at l.text)) l.text l.jobs l.e

@@ -2,14 +2,8 @@ use borrow.Author.Rules.{rules}
 use Rattle.reader.specs.Code.{digits_cases}
 use Rattle.reader.proofs.parts.read_number.Goals as goal
 
-pub loop-i-init : goal.loop-i-init
-loop-i-init c = search (rules, digits_cases)
-
 pub returns-then-b-lt48 : goal.returns-then-b-lt48
 returns-then-b-lt48 c = search (rules, digits_cases)
-
-pub returns-then-b-gt57 : goal.returns-then-b-gt57
-returns-then-b-gt57 c = search (rules, digits_cases)
 
 pub loop-i-preserved : goal.loop-i-preserved
 loop-i-preserved c = search (rules, digits_cases)

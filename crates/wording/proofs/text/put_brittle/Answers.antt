@@ -5,5 +5,5 @@ use Rattle.wording.proofs.text.put_brittle.Goals as goal
 pub returns-in-None : goal.returns-in-None
 returns-in-None c = search (rules, brittle_cases)
 
-pub returns-in-Of : goal.returns-in-Of
-returns-in-Of c = search (rules, brittle_cases)
+pub returns-in-Some : goal.returns-in-Some
+returns-in-Some c = search (rules, brittle_cases)

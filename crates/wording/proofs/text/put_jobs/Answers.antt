@@ -2,11 +2,11 @@ use borrow.Author.Rules.{rules}
 use Rattle.wording.specs.Write.{listed_laws}
 use Rattle.wording.proofs.text.put_jobs.Goals as goal
 
-pub loop-i-init : goal.loop-i-init
-loop-i-init c = search (rules, listed_laws)
+pub loop-j-init : goal.loop-j-init
+loop-j-init c = search (rules, listed_laws)
 
-pub loop-i-preserved : goal.loop-i-preserved
-loop-i-preserved c = search (rules, listed_laws)
+pub loop-j-preserved : goal.loop-j-preserved
+loop-j-preserved c = search (rules, listed_laws)
 
 pub returns : goal.returns
 returns c = search (rules, listed_laws)
