@@ -2,9 +2,6 @@ use borrow.Author.Rules.{rules}
 use Rattle.table.specs.Settle.{part_laws}
 use Rattle.table.proofs.settle.part_of.Goals as goal
 
-pub loop-m-init : goal.loop-m-init
-loop-m-init c = search (rules, part_laws)
-
 pub nonzero_div-q : goal.nonzero_div-q
 nonzero_div-q c = search (rules, part_laws)
 
@@ -13,12 +10,6 @@ requested-requires c = search (rules, part_laws)
 
 pub returns-then-requested-q : goal.returns-then-requested-q
 returns-then-requested-q c = search (rules, part_laws)
-
-pub overflow_sub-m : goal.overflow_sub-m
-overflow_sub-m c = search (rules, part_laws)
-
-pub loop-m-preserved : goal.loop-m-preserved
-loop-m-preserved c = search (rules, part_laws)
 
 pub returns : goal.returns
 returns c = search (rules, part_laws)
