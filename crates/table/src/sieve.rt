@@ -52,10 +52,8 @@ fn mark(marks: &mut [u32], a: usize, stride: usize, c: u32)
     requires { Markable marks.old stride c }
     ensures { Marked marks.old marks.new a stride c }
 {
-    let mut x = a;
-    while x < 256 {
-        marks[x] = marks[x] + c;
-        x = x + stride;
+    for x in (a..256).step_by(stride) {
+        marks[x] += c;
     }
 }
 
