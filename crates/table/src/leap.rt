@@ -1,6 +1,6 @@
 // A lower bound on every busy length, from the rows' utilisation (docs/SPECIFICATION.md §2.4): where the iteration would
 // take many short steps, it goes on from here, or sieves the ticks.
-ghost use Rattle.std.specs.Prelude.{◌≡◌, ◌-◌, ◌*◌, ◌≤◌, ◌<◌, min, ltb};
+ghost use Rattle.std.specs.Prelude.{◌≡◌, ◌-◌, ◌*◌, ◌≤◌, ◌<◌, ltb};
 ghost use Rattle.bounded.specs.Quotient.{ceil_div};
 ghost use Rattle.edf.specs.Demand.{request};
 ghost use Rattle.table.specs.Rows.{tasks_of, Fit};
@@ -62,19 +62,11 @@ fn fill(words: &[u32], inverses: &[u64; 16], r: u64, b: u64) -> Filling
         shares: 0,
         asked: 0,
     };
-    let mut i: usize = 0;
-    while i < n {
+    for i in 0..n {
         let k = prepare(words, inverses, i);
         f = with_row(f, k, r, b);
-        i = i + 1;
     }
     f
-}
-
-fn least(w: u64) -> u64
-    ensures { result ≡ min w 1000001 }
-{
-    if w < 1000001 { w } else { 1000001 }
 }
 
 // The stretch that work w fills beside the shares u.
@@ -90,7 +82,7 @@ fn filled(u: u64, w: u64) -> u64
     if 4294967296 <= u {
         return 1000001;
     }
-    let m = least(w);
+    let m = w.min(1000001);
     4294967296 * m / (4294967296 - u)
 }
 
@@ -109,14 +101,12 @@ fn leaps(words: &[u32], inverses: &[u64; 16], r: u64, next: u64) -> u64
     ensures { Further (tasks_of words.now) r next result }
 {
     let mut at = next;
-    let mut turns: u64 = 0;
-    while turns < 4 {
+    for _ in 0..4 {
         let b = leap_at(words, inverses, r, at);
         if b <= at {
             return at;
         }
         at = b;
-        turns = turns + 1;
     }
     at
 }
