@@ -127,9 +127,7 @@ fn copied(words: &[u32]) -> [u32; 48]
 {
     let n = words.len().min(48);
     let mut copy = [0u32; 48];
-    for i in 0..n {
-        copy[i] = words[i];
-    }
+    copy[..n].copy_from_slice(&words[..n]);
     copy
 }
 
