@@ -1,7 +1,6 @@
 -- The walk over the records, place by place, is the walk over their list (docs/SPECIFICATION.md §5.9). Assumes nothing.
-use Rattle.std.specs.Prelude.{ℕ, zero, suc, ◌+◌, ◌≡◌, refl, true, false, List, [], ◌∷◌, length, get_or, set}
+use Rattle.std.specs.Prelude.{ℕ, zero, suc, ◌+◌, ◌≡◌, refl, Bool, true, false, Option, Some, MatchOption, List, [], ◌∷◌, length, get_or, set}
 use Rattle.std.proofs.Common.{sym, ap, ◌∙◌, add-one}
-use Rattle.std.proofs.lemmas.Bool.{false≢true}
 use Rattle.bounded.specs.Fold.{fold_to}
 use Rattle.table.specs.Inverse.{Inverses}
 use Rattle.session.specs.declared.Session.{Session}
@@ -10,60 +9,56 @@ use Rattle.session.specs.declared.Arrival.{Arrival}
 use Rattle.session.specs.declared.Answer.{Answer}
 use Rattle.session.specs.declared.Answer.TheVariants.{Unsound}
 use Rattle.session.specs.declared.Outcome.{Outcome}
-use Rattle.session.specs.declared.sound.Check.{Check}
 use Rattle.session.specs.Reading.{tasks}
 use Rattle.session.specs.Sound.{sound}
 use Rattle.session.specs.Calls.{Shows, shown, refused, arrive_in, arrive_of}
-use Rattle.session.specs.Guard.{guarded_in, guarded_out}
+use Rattle.session.specs.Guard.{checked_yes, checked_no}
 use Rattle.session.specs.Arrive.{arrive_sound, arrive_rows, arrive_marks}
 use Rattle.session.specs.Brittle.{Marks}
-use Rattle.session.specs.Soundness.{Checks}
 use Rattle.session.specs.Batch.{answered, after_all, answered_all}
 use Rattle.calls.specs.Code.{MarkOf, mark_of}
 use Rattle.batch.specs.declared.Shared.{Shared}
 
 -- ---- one record
 
--- what is known of a session
-pub record Known (s : Session) (g : Shared) : Type 0 where
-  pub found : g.sound ≡ sound s
-  pub marks : g.sound ≡ true → Marks s g.brittle
-  pub inverses : g.sound ≡ true → Inverses (tasks s) g.inverses
+-- what is known of a sound session
+pub record Shares (s : Session) (g : Shared) : Type 0 where
+  pub found : sound s ≡ true
+  pub marks : Marks s g.brittle
+  pub inverses : Inverses (tasks s) g.inverses
+
+-- what is known of a session: nothing is shared where it is not sound
+abbrev pub Known : Session → Option Shared → Type 0
+Known s g = MatchOption g (sound s ≡ false) (Shares s)
 
 -- the check finds it
-pub known_sound : (s : Session) (c : Check) (v : List ℕ) → Checks s c → c.sound ≡ true → Inverses (tasks s) v
-    → Known s (record { sound = true; brittle = c.brittle; inverses = v })
-known_sound s c v h t e = record { found = sym t ∙ h.sound; marks = λ _. h.marks t; inverses = λ _. e }
-
-pub known_not : (s : Session) (c : Check) (v : List ℕ) → Checks s c → c.sound ≡ false
-    → Known s (record { sound = false; brittle = c.brittle; inverses = v })
-known_not s c v h f = record { found = sym f ∙ h.sound; marks = λ t. absurd (false≢true t); inverses = λ t. absurd (false≢true t) }
-
-pub ruleset known_laws = (known_sound, known_not)
+pub known_sound : (s : Session) (m : List Bool) (v : List ℕ) → (sound s ≡ true) × Marks s m → Inverses (tasks s) v
+    → Shares s (record { brittle = m; inverses = v })
+known_sound s m v h e = record { found = h.0; marks = h.1; inverses = e }
 
 -- its row arrives
-module _ (s : Session) (g : Shared) (row : ℕ) (o : Outcome) (k : Known s g) (jobs : length s.jobs ≡ 16) (words : length s.words ≡ 48) where
-  still_known : o ≡ arrive_of s row → (o ≡ arrive_of s row) × Known o.session g
-  still_known h = (
-    h,
-    record {
-      found = rw h (k.found ∙ sym (arrive_sound s row jobs words));
-      marks = λ t. rw h (arrive_marks s row g.brittle (k.marks t));
-      inverses = λ t. rw (h, arrive_rows s row) (k.inverses t);
-    },
-  )
-
-  pub checked_in : g.sound ≡ true → o ≡ arrive_in s row → (o ≡ arrive_of s row) × Known o.session g
+module _ (s : Session) (row : ℕ) (o : Outcome) (jobs : length s.jobs ≡ 16) (words : length s.words ≡ 48) where
+  pub checked_in : (x : Option Shared) (g : Shared) → x ≡ Some g → Shares s g → o ≡ arrive_in s row → (o ≡ arrive_of s row) × Known o.session x
   unfolding arrive_of
-  checked_in t h = still_known (guarded_in s o (arrive_in s row) g.sound k.found t h)
+  checked_in x g is k h =
+      let e : o ≡ arrive_of s row = checked_yes s o (arrive_in s row) k.found h in (
+        e,
+        rw is
+        (record {
+          found = rw e (arrive_sound s row jobs words ∙ k.found);
+          marks = rw e (arrive_marks s row g.brittle k.marks);
+          inverses = rw (e, arrive_rows s row) k.inverses;
+        }),
+      )
 
-  pub checked_out : g.sound ≡ false → o ≡ refused s Unsound → (o ≡ arrive_of s row) × Known o.session g
+  pub checked_out : sound s ≡ false → o ≡ refused s Unsound → (o ≡ arrive_of s row) × (sound o.session ≡ false)
   unfolding arrive_of
-  checked_out f h = still_known (guarded_out s o (arrive_in s row) g.sound k.found f h)
+  checked_out f h =
+      let e : o ≡ arrive_of s row = checked_no s o (arrive_in s row) f h in
+      (e, rw e (arrive_sound s row jobs words ∙ f))
 
-pub known_asks : (s : Session) (g : Shared) (row : ℕ) → Known s g → g.sound ≡ true
-    → (sound s ≡ true) × Inverses (tasks s) g.inverses × MarkOf s g.brittle row
-known_asks s g row k t = (sym k.found ∙ t, k.inverses t, mark_of s g.brittle row (k.marks t))
+pub known_asks : (s : Session) (g : Shared) (row : ℕ) → Shares s g → (sound s ≡ true) × Inverses (tasks s) g.inverses × MarkOf s g.brittle row
+known_asks s g row k = (k.found, k.inverses, mark_of s g.brittle row k.marks)
 
 -- its answer is put in its place
 pub filled_is : (a : Arrival) (x : Answer) (n : Numbers) → Shows (shown x) n

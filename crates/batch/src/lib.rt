@@ -10,46 +10,31 @@ use calls::arrive::{arrive_by, shared_inverses};
 use session::sound::check_of;
 use session::{Answer, Arrival, Outcome, Session, refuse};
 
-// What is known of the session before each record: whether it is sound, and if so, which of its rows are brittle, and the inverses of
-// its table's periods.
+// What is known of a sound session before each record: which of its rows are brittle, and the inverses of its table's periods.
 #[derive(Clone, Copy)]
 pub struct Shared {
-    pub sound: bool,
     pub brittle: [bool; 16],
     pub inverses: [u64; 16],
 }
 
-fn checked(s: Session) -> Shared
+// None where the session is not sound.
+fn checked(s: Session) -> Option<Shared>
     ensures { Known s result }
 {
-    let c = check_of(s);
-    let brittle = c.brittle;
-    if c.sound {
-        let inverses = shared_inverses(s);
-        return Shared {
-            sound: true,
-            brittle,
-            inverses,
-        };
-    }
-    Shared {
-        sound: false,
-        brittle,
-        inverses: [0; 16],
-    }
+    let brittle = check_of(s)?;
+    let inverses = shared_inverses(s);
+    Some(Shared { brittle, inverses })
 }
 
 // A record's row arrives, with the check made before. What was found still holds of the session after it.
-fn arrive_checked(s: Session, shared: Shared, a: Arrival) -> Outcome
+fn arrive_checked(s: Session, shared: Option<Shared>, a: Arrival) -> Outcome
     requires { Known s shared }
     ensures { (result ≡ arrive_of s a.row) × Known result.session shared }
 {
-    let inverses = shared.inverses;
-    let brittle = shared.brittle;
-    if shared.sound {
-        return arrive_by(s, &inverses, brittle, a.row);
-    }
-    refuse(s, Answer::Unsound)
+    let Some(known) = shared else {
+        return refuse(s, Answer::Unsound);
+    };
+    arrive_by(s, &known.inverses, known.brittle, a.row)
 }
 
 // A record with its answer's numbers in their place.
@@ -72,13 +57,11 @@ pub fn arrive_all(s: Session, list: &mut [Arrival]) -> Session
 {
     let shared = checked(s);
     let mut t = s;
-    let mut i: usize = 0;
-    while i < list.len() {
+    for i in 0..list.len() {
         let a = list[i];
         let o = arrive_checked(t, shared, a);
         list[i] = filled(a, o);
         t = o.session;
-        i = i + 1;
     }
     t
 }

@@ -8,7 +8,7 @@ use native.Mathlib.Omega.{arith}
 use Rattle.std.proofs.Math.Decide.{ℕ_discrete}
 use Rattle.std.proofs.Math.Dec.{lit≤}
 use Rattle.std.proofs.lemmas.List.{get_or-replicate}
-use Rattle.std.specs.Int.{w64}
+use Rattle.std.specs.Int.{w64, from_bool}
 use borrow.Author.Tests.{lt-ltb, le-ltb, ltb-false, le-leb, lt-leb, eq-eqb, ne_eqb}
 use Rattle.bounded.specs.Tests.{both, gate, gate_on, gate_off, gate_le}
 use Rattle.bounded.specs.Sum.{sum_to}
@@ -323,18 +323,6 @@ module _ (j : Job) (due : ℕ) (m : Bool) where
 
 pub ruleset gains_cases = (gains_brittle, gains_none, gains_later)
 
-module _ (b n most : ℕ) where
-  pub capped_all : most < n → most ≡ min (b + n) most
-  capped_all h = omega arith
-
-  pub capped_most : n ≤ most → most - n < b → most ≡ min (b + n) most
-  capped_most h k = omega arith
-
-  pub capped_sum : n ≤ most → b ≤ most - n → b + n ≡ min (b + n) most
-  capped_sum h k = omega arith
-
-pub ruleset capped_cases = (capped_all, capped_most, capped_sum)
-
 -- row i's job j after c, which is due at `due`, is over with n unused ticks
 unfoldable pub given_by : TaskSet → ℕ → Job → ℕ → ℕ → ℕ → Bool → Job
 given_by τ i j c due n m =
@@ -445,15 +433,11 @@ module _ (c left n : ℕ) where
   unfolding over_by
   over_idle e = simp (eq-eqb c idle e)
 
-  pub over_yes : (c ≡ idle → ⊥) → left ≡ n → 1 ≡ over_by c left n
+  pub over_row : (r : ℕ) → (c ≡ idle → ⊥) → r ≡ from_bool (eqb left n) → r ≡ over_by c left n
   unfolding over_by
-  over_yes e f = simp (ne_eqb c idle e, eq-eqb left n f)
+  over_row r ne e = both (eqb left n) (λ t. e ∙ simp (ne_eqb c idle ne, t)) (λ f. e ∙ simp (ne_eqb c idle ne, f))
 
-  pub over_not : (c ≡ idle → ⊥) → (left ≡ n → ⊥) → 0 ≡ over_by c left n
-  unfolding over_by
-  over_not e f = simp (ne_eqb c idle e, ne_eqb left n f)
-
-pub ruleset over_cases = (over_idle, over_yes, over_not)
+pub ruleset over_cases = (over_idle, over_row)
 
 over_is : (s : Session) (n at : ℕ) → ChoiceBounds s → at ≡ place_of s.chosen → over_by s.chosen (job_at s at).left n ≡ over_after s n
 unfolding over_by over_after

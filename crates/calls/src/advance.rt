@@ -6,12 +6,11 @@ ghost use Rattle.session.specs.Calls.{over_by, stepped_of, advance_in, advance_o
 ghost use Rattle.calls.specs.Code.{aged_by, place_of, kept_by, Step};
 
 use super::over_job;
-use bounded::less;
 use session::sound::{is_ahead, is_sound};
 use session::{Answer, Job, Outcome, Session, refuse};
 
-// Row i's job after n ticks of the choice c, which is due at `due` where it is a row. In a sound session `less` cuts off
-// nothing.
+// Row i's job after n ticks of the choice c, which is due at `due` where it is a row. In a sound session
+// `saturating_sub` cuts off nothing.
 fn aged_job(j: Job, i: u64, c: u64, due: u64, n: u64) -> Job
     ensures { result ≡ aged_by j i c due n }
 {
@@ -22,7 +21,7 @@ fn aged_job(j: Job, i: u64, c: u64, due: u64, n: u64) -> Job
         return Job {
             next: j.next,
             due: j.due,
-            left: less(j.left, n),
+            left: j.left.saturating_sub(n),
             budget: j.budget,
         };
     }
@@ -31,7 +30,7 @@ fn aged_job(j: Job, i: u64, c: u64, due: u64, n: u64) -> Job
             next: j.next,
             due: j.due,
             left: j.left,
-            budget: less(j.budget, n),
+            budget: j.budget.saturating_sub(n),
         };
     }
     j
@@ -41,10 +40,7 @@ fn aged_job(j: Job, i: u64, c: u64, due: u64, n: u64) -> Job
 pub fn place_of(c: u64) -> usize
     ensures { Within 15 (place_of c) result }
 {
-    if c < 16 {
-        return c as usize;
-    }
-    0
+    if c < 16 { c as usize } else { 0 }
 }
 
 // 1 if c is a row and its job, with `left` ticks remaining, is over after n ticks.
@@ -54,10 +50,7 @@ fn over_after(c: u64, left: u64, n: u64) -> u64
     if c == Session::IDLE {
         return 0;
     }
-    if left == n {
-        return 1;
-    }
-    0
+    u64::from(left == n)
 }
 
 // What is chosen after a step that leaves `left` ticks of c: nothing once none is left.
@@ -80,11 +73,9 @@ fn stepped(s: Session, n: u64) -> Outcome
     let later = q.clock + n;
     let at = place_of(c);
     let k = q.jobs[at];
-    let mut i: usize = 0;
-    while i < rows {
+    for i in 0..rows {
         let j = q.jobs[i];
         q.jobs[i] = aged_job(j, i as u64, c, k.due, n);
-        i = i + 1;
     }
     let over = over_after(c, k.left, n);
     q.clock = later;

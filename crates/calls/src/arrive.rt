@@ -8,7 +8,6 @@ ghost use Rattle.session.specs.Sound.{sound};
 ghost use Rattle.session.specs.Calls.{arrive_in, arrive_of};
 ghost use Rattle.calls.specs.Code.{pending_by, load_by, looked_at_lem, budget_by, arriving_by, MarkOf, Marked};
 
-use bounded::less;
 use session::sound::check_of;
 use session::{Answer, Job, Outcome, Session, refuse};
 use table::budgets::{below_zero, value_of};
@@ -20,10 +19,7 @@ use table::rows::{Task, fit_row};
 fn pending(j: Job, d: u64) -> u64
     ensures { result ≡ pending_by j d }
 {
-    if d < j.due {
-        return 0;
-    }
-    j.left
+    if d < j.due { 0 } else { j.left }
 }
 
 // The work of the row k, with its job j, that can still have to be done by x ticks after the clock: by the job, and by those still
@@ -32,7 +28,7 @@ fn row_load(k: Prepared, j: Job, clock: u64, x: u64) -> u64
     requires { Tame k × (j.left ≤ 1000000) × (clock ≤ clock_end) × (x ≤ 1000000) }
     ensures { Within 1000001000000 (load_by k j clock x) result }
 {
-    let t = less(x, less(j.next, clock));
+    let t = x.saturating_sub(j.next.saturating_sub(clock));
     pending(j, clock + x) + owe(k, t)
 }
 
@@ -41,10 +37,7 @@ fn charge(k: Prepared, own: bool, j: Job, clock: u64, x: u64) -> u64
     requires { Tame k × (j.left ≤ 1000000) × (clock ≤ clock_end) × (x ≤ 1000000) }
     ensures { Within 1000001000000 (gate (not own) (load_by k j clock x)) result }
 {
-    if own {
-        return 0;
-    }
-    row_load(k, j, clock, x)
+    if own { 0 } else { row_load(k, j, clock, x) }
 }
 
 // How many rows are looked at: none where the row of the new job is brittle.
@@ -55,7 +48,7 @@ fn looked_at(brittle: bool, rows: usize) -> usize
 }
 
 // The budget of a new job of the row k, where other rows ask for so much by its deadline. In a sound session that leaves some of
-// D − C, or all: `less` cuts off nothing (`BudgetWhole` in crates/guarantee/specs/Statement.antt).
+// D − C, or all: `saturating_sub` cuts off nothing (`BudgetWhole` in crates/guarantee/specs/Statement.antt).
 fn budget(k: Task, brittle: bool, asked: u64) -> u64
     requires { (k.run ≤ 1000000) × (asked ≤ 16000016000000) }
     ensures { result ≡ budget_by k brittle asked }
@@ -63,7 +56,7 @@ fn budget(k: Task, brittle: bool, asked: u64) -> u64
     if brittle {
         return 0;
     }
-    less(k.deadline, k.run + asked)
+    k.deadline.saturating_sub(k.run + asked)
 }
 
 // The job that arrives now in the row k.
@@ -104,11 +97,9 @@ fn arrive_marked(s: Session, brittle: [bool; 16], row: u64) -> Outcome
     let k = fit_row(rows, i);
     let n = looked_at(brittle[i], count as usize);
     let mut asked: u64 = 0;
-    let mut j: usize = 0;
-    while j < n {
+    for j in 0..n {
         let p = prepare_alone(rows, j);
-        asked = asked + charge(p, j == i, q.jobs[j], clock, k.deadline);
-        j = j + 1;
+        asked += charge(p, j == i, q.jobs[j], clock, k.deadline);
     }
     let job = arriving(k, clock, brittle[i], asked);
     q.jobs[i] = job;
@@ -147,11 +138,9 @@ pub fn arrive_by(s: Session, inverses: &[u64; 16], brittle: [bool; 16], row: u64
     let k = fit_row(rows, i);
     let n = looked_at(brittle[i], count as usize);
     let mut asked: u64 = 0;
-    let mut j: usize = 0;
-    while j < n {
+    for j in 0..n {
         let p = prepare(rows, inverses, j);
-        asked = asked + charge(p, j == i, t.jobs[j], tick, k.deadline);
-        j = j + 1;
+        asked += charge(p, j == i, t.jobs[j], tick, k.deadline);
     }
     let job = arriving(k, tick, brittle[i], asked);
     t.jobs[i] = job;
@@ -218,10 +207,8 @@ pub fn arrive_sound(s: Session, row: u64) -> Outcome
 pub fn arrive(s: Session, row: u64) -> Outcome
     ensures { result ≡ arrive_of s row }
 {
-    let c = check_of(s);
-    let brittle = c.brittle;
-    if c.sound {
-        return arrive_marked(s, brittle, row);
-    }
-    refuse(s, Answer::Unsound)
+    let Some(brittle) = check_of(s) else {
+        return refuse(s, Answer::Unsound);
+    };
+    arrive_marked(s, brittle, row)
 }

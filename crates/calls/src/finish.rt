@@ -18,23 +18,14 @@ fn gains(j: Job, due: u64, brittle: bool) -> bool
     if brittle {
         return false;
     }
-    if j.left < 1 {
-        return false;
-    }
-    due < j.due
+    0 < j.left && due < j.due
 }
 
-// The lesser of b + n and most; no sum that could wrap is made.
+// The lesser of b + n and most: a sum past 2 to the 64th is more than most too.
 fn capped(b: u64, n: u64, most: u64) -> u64
     ensures { result ≡ min (b + n) most }
 {
-    if most < n {
-        return most;
-    }
-    if most - n < b {
-        return most;
-    }
-    b + n
+    b.saturating_add(n).min(most)
 }
 
 // Row i's job after the chosen job c, which is due at `due`, is over with n unused ticks.
@@ -69,11 +60,9 @@ fn finished(s: Session, brittle: [bool; 16]) -> Outcome
     let e = 3 * count;
     let rows = &words[..e];
     let k = q.jobs[c as usize];
-    let mut i: usize = 0;
-    while i < count {
+    for i in 0..count {
         let j = q.jobs[i];
         q.jobs[i] = given_job(rows, i, j, c, k.due, k.left, brittle[i]);
-        i = i + 1;
     }
     q.chosen = 0;
     q.span = 0;
@@ -115,10 +104,8 @@ pub fn finish_sound(s: Session) -> Outcome
 pub fn finish(s: Session) -> Outcome
     ensures { result ≡ finish_of s }
 {
-    let c = check_of(s);
-    let brittle = c.brittle;
-    if c.sound {
-        return finish_by(s, brittle);
-    }
-    refuse(s, Answer::Unsound)
+    let Some(brittle) = check_of(s) else {
+        return refuse(s, Answer::Unsound);
+    };
+    finish_by(s, brittle)
 }

@@ -7,9 +7,7 @@ use borrow.Author.Tests.{lt-ltb, le-ltb}
 use Rattle.decimal.specs.Buffer.{Wrote}
 use Rattle.session.specs.declared.Session.{Session}
 use Rattle.session.specs.declared.Answer.TheVariants.{Chosen, Unsound, InForce}
-use Rattle.session.specs.declared.sound.Check.{Check}
 use Rattle.session.specs.Sound.{sound}
-use Rattle.session.specs.Soundness.{Checks}
 use Rattle.session.specs.Order.{waiting_count}
 use Rattle.choice.specs.Agree.{sound_few}
 use Rattle.wording.specs.declared.Parts.{Parts}
@@ -35,14 +33,13 @@ module _ (s : Session) (l : List ℕ) where
   unfolding explain_in account_of_lem
   explain_chosen a e h = rw e (sym (simp (le-ltb 0 s.span h)))
 
-  module _ (c : Check) (k : Checks s c) where
-    pub explain_sound : (r : Explained) → c.sound ≡ true → r ≡ explain_in s l → r ≡ explain_of s l
-    unfolding explain_of
-    explain_sound r t e = e ∙ sym (simp (sym k.sound ∙ t))
+  pub explain_sound : (r : Explained) → sound s ≡ true → r ≡ explain_in s l → r ≡ explain_of s l
+  unfolding explain_of
+  explain_sound r t e = e ∙ sym (simp t)
 
-    pub explain_unsound : (p : Parts) → p ≡ no_parts → c.sound ≡ false → record { answer = Unsound; used = 0; parts = p } ≡ explain_of s l
-    unfolding explain_of
-    explain_unsound p e f = rw e (sym (simp (sym k.sound ∙ f)))
+  pub explain_unsound : (p : Parts) → p ≡ no_parts → sound s ≡ false → record { answer = Unsound; used = 0; parts = p } ≡ explain_of s l
+  unfolding explain_of
+  explain_unsound p e f = rw e (sym (simp f))
 
   -- ---- the text
 
@@ -89,22 +86,21 @@ module _ (s : Session) (l : List ℕ) where
     unfolding buffer_in
     left_short z h = sym (simp (le-ltb 0 s.span z, lt-ltb (length d) 2048 h))
 
-    module _ (c : Check) (k : Checks s c) where
-      pub said_sound : (r : Told) → c.sound ≡ true → r ≡ told_in s l (length d) → r ≡ told_of s l (length d)
-      unfolding told_of
-      said_sound r t e = e ∙ sym (simp (sym k.sound ∙ t))
+    pub said_sound : (r : Told) → sound s ≡ true → r ≡ told_in s l (length d) → r ≡ told_of s l (length d)
+    unfolding told_of
+    said_sound r t e = e ∙ sym (simp t)
 
-      pub left_sound : (b : List ℕ) → c.sound ≡ true → b ≡ buffer_in s l d → b ≡ buffer_of s l d
-      unfolding buffer_of
-      left_sound b t e = e ∙ sym (simp (sym k.sound ∙ t))
+    pub left_sound : (b : List ℕ) → sound s ≡ true → b ≡ buffer_in s l d → b ≡ buffer_of s l d
+    unfolding buffer_of
+    left_sound b t e = e ∙ sym (simp t)
 
-      pub said_unsound : c.sound ≡ false → NotSound ≡ told_of s l (length d)
-      unfolding told_of
-      said_unsound f = sym (simp (sym k.sound ∙ f))
+    pub said_unsound : sound s ≡ false → NotSound ≡ told_of s l (length d)
+    unfolding told_of
+    said_unsound f = sym (simp f)
 
-      pub left_unsound : c.sound ≡ false → d ≡ buffer_of s l d
-      unfolding buffer_of
-      left_unsound f = sym (simp (sym k.sound ∙ f))
+    pub left_unsound : sound s ≡ false → d ≡ buffer_of s l d
+    unfolding buffer_of
+    left_unsound f = sym (simp f)
 
 pub ruleset explain_cases = (explain_running, explain_chosen, explain_sound, explain_unsound)
 

@@ -70,16 +70,14 @@ fn explain_by(s: Session, brittle: [bool; 16], words: &[u32]) -> Explained
 pub fn explain(s: Session, words: &[u32]) -> Explained
     ensures { result ≡ explain_of s words.now }
 {
-    let c = check_of(s);
-    let brittle = c.brittle;
-    if c.sound {
-        return explain_by(s, brittle, words);
-    }
-    Explained {
-        answer: Answer::Unsound,
-        used: 0,
-        parts: Parts::none(),
-    }
+    let Some(brittle) = check_of(s) else {
+        return Explained {
+            answer: Answer::Unsound,
+            used: 0,
+            parts: Parts::none(),
+        };
+    };
+    explain_by(s, brittle, words)
 }
 
 // `tell` of a sound session, by its brittle rows.
@@ -109,12 +107,10 @@ fn tell_by(s: Session, brittle: [bool; 16], words: &[u32], out: &mut [u8]) -> To
 pub fn tell(s: Session, words: &[u32], out: &mut [u8]) -> Told
     ensures { (result ≡ told_of s words.now (length out.old)) × (out.new ≡ buffer_of s words.now out.old) }
 {
-    let c = check_of(s);
-    let brittle = c.brittle;
-    if c.sound {
-        return tell_by(s, brittle, words, out);
-    }
-    Told::Unsound
+    let Some(brittle) = check_of(s) else {
+        return Told::Unsound;
+    };
+    tell_by(s, brittle, words, out)
 }
 
 // The text alone, from a place on, for callers who can prove that the session is sound and have seen to the room; the answer is

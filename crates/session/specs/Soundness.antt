@@ -1,5 +1,5 @@
 -- The code that decides soundness, row by row (docs/SPECIFICATION.md §5.2). Assumes nothing.
-use Rattle.std.specs.Prelude.{ℕ, ◌+◌, ◌-◌, ◌≤◌, ◌<◌, ◌≡◌, Bool, true, false, not, ◌&&◌, ◌||◌, cond, List, leb, ltb, eqb, length, get_or}
+use Rattle.std.specs.Prelude.{Option, MatchOption, ℕ, ◌+◌, ◌-◌, ◌≤◌, ◌<◌, ◌≡◌, Bool, true, false, not, ◌&&◌, ◌||◌, cond, List, leb, ltb, eqb, length, get_or}
 use Rattle.std.proofs.Math.Path.{sym}
 use Rattle.std.proofs.Common.{ap, ◌∙◌, arith}
 use Rattle.std.proofs.lemmas.Bool.{false≢true}
@@ -16,7 +16,6 @@ use Rattle.table.proofs.KindLaws.{kind_none}
 use Rattle.table.proofs.TheoremsLaws.{opinion_fit}
 use Rattle.session.specs.declared.Job.{Job}
 use Rattle.session.specs.declared.Session.{Session}
-use Rattle.session.specs.declared.sound.Check.{Check}
 use Rattle.session.specs.Reading.{idle, clock_end, job_at, rows_of, tasks, waits, most_budget}
 use Rattle.session.specs.Sound.{sound_rows, sound_waiting, sound_job, runs, affords, sound_choice, sound}
 use Rattle.session.specs.Brittle.{rows_count, Marks}
@@ -228,36 +227,23 @@ job_turn s m i b h l e = e ∙ ap (λ (x : Bool). sound_in (tasks s) i (job_at s
 
 -- ---- the whole test
 
--- ---- the check: whether a session is sound, and if so, which rows are brittle
+-- ---- the check: which rows are brittle where the session is sound, and none otherwise
 
-pub record Checks (s : Session) (c : Check) : Type 0 where
-  pub sound : c.sound ≡ sound s
-  pub marks : c.sound ≡ true → Marks s c.brittle
+abbrev pub Checks : Session → Option (List Bool) → Type 0
+Checks s c = MatchOption c (sound s ≡ false) (λ m. (sound s ≡ true) × Marks s m)
 
--- what a caller has of it where it says yes
-pub checked_marks : (s : Session) (c : Check) → Checks s c → c.sound ≡ true → Marks s c.brittle
-checked_marks s c h = h.marks
-
--- the answer no
-abbrev pub unsound_with : List Bool → Check
-unsound_with m = record { sound = false; brittle = m }
-
-check_no : (s : Session) (m : List Bool) (c : Check) → c ≡ unsound_with m → false ≡ sound s → Checks s c
-check_no s m c g e = rw g (record { sound = e; marks = λ t. absurd (false≢true t) })
-
-pub check_many : (s : Session) (m : List Bool) (c : Check) → c ≡ unsound_with m → 16 < s.count → Checks s c
+pub check_many : (s : Session) → 16 < s.count → sound s ≡ false
 unfolding sound sound_rows
-check_many s m c g h = check_no s m c g (simp (lt-leb s.count 16 h))
+check_many s h = simp (lt-leb s.count 16 h)
 
 module _ (s : Session) (few : s.count ≤ 16) (k : Kind) (h : KindFor (rows_of s) k) where
-  pub check_refused : (c : Check) → c ≡ unsound_with k.brittle → k.number ≡ 0 → Checks s c
+  pub check_refused : k.number ≡ 0 → sound s ≡ false
   unfolding sound sound_rows
-  check_refused c g z =
-      check_no s k.brittle c g
-      (simp (
+  check_refused z =
+      simp (
         le-leb s.count 16 few,
         ne_eqb (opinion_of (rows_of s)).number 0 (kind_none (rows_of s) (sym h.number ∙ z)),
-      ))
+      )
 
   module _ (ne : k.number ≡ 0 → ⊥) where
     answer_is : ((opinion_of (rows_of s)).number ≡ 0) × ((opinion_of (rows_of s)).first ≡ k.number)
@@ -266,21 +252,20 @@ module _ (s : Session) (few : s.count ≤ 16) (k : Kind) (h : KindFor (rows_of s
         (a.0, a.1 ∙ sym h.number)
 
     -- and which rows are brittle
-    marks_are : length s.words ≡ 48 → Marks s k.brittle
+    pub marks_are : length s.words ≡ 48 → Marks s k.brittle
     marks_are p = record {
       at = λ i l. ap (λ (x : List Bool). get_or x i false) (h.brittle ne)
           ∙ marks_at (tasks s) i (opinion_fit (rows_of s) answer_is.0) (omega (arith, rows_count s few p));
     }
 
-    pub check_kind : (c : Check) → c ≡ unsound_with k.brittle → (k.number ≡ s.kind → ⊥) → Checks s c
+    pub check_kind : (k.number ≡ s.kind → ⊥) → sound s ≡ false
     unfolding sound sound_rows
-    check_kind c g other =
-        check_no s k.brittle c g
-        (simp (
+    check_kind other =
+        simp (
           le-leb s.count 16 few,
           eq-eqb (opinion_of (rows_of s)).number 0 answer_is.0,
           ne_eqb (opinion_of (rows_of s)).first s.kind (λ e. other (sym answer_is.1 ∙ e)),
-        ))
+        )
 
     module _ (same : k.number ≡ s.kind) where
       rows_sound : sound_rows s ≡ true
@@ -292,9 +277,9 @@ module _ (s : Session) (few : s.count ≤ 16) (k : Kind) (h : KindFor (rows_of s
             eq-eqb (opinion_of (rows_of s)).first s.kind (answer_is.1 ∙ same),
           )
 
-      pub check_clock : (c : Check) → c ≡ unsound_with k.brittle → clock_end < s.clock → Checks s c
+      pub check_clock : clock_end < s.clock → sound s ≡ false
       unfolding sound
-      check_clock c g l = check_no s k.brittle c g (simp (rows_sound, lt-leb s.clock clock_end l))
+      check_clock l = simp (rows_sound, lt-leb s.clock clock_end l)
 
       module _ (u : s.clock ≤ clock_end) where
         pub check_ready : length s.words ≡ 48 → Checked s k.brittle
@@ -307,14 +292,20 @@ module _ (s : Session) (few : s.count ≤ 16) (k : Kind) (h : KindFor (rows_of s
           marks = marks_are p;
         }
 
-        pub check_jobs : (c : Check) → c ≡ unsound_with k.brittle → (b : Bool) → b ≡ all_to (sound_job s) s.count → b ≡ false → Checks s c
-        unfolding sound
-        check_jobs c g b e f = check_no s k.brittle c g (simp (rows_sound, le-leb s.clock clock_end u, sym e ∙ f))
+        module _ (b : Bool) (e : b ≡ all_to (sound_job s) s.count) where
+          pub check_jobs : b ≡ false → sound s ≡ false
+          unfolding sound
+          check_jobs f = simp (rows_sound, le-leb s.clock clock_end u, sym e ∙ f)
 
-        pub check_rest : (b x : Bool) → length s.words ≡ 48 → b ≡ all_to (sound_job s) s.count → b ≡ true → x ≡ sound_choice s
-            → Checks s (record { sound = x; brittle = k.brittle })
-        unfolding sound
-        check_rest b x p e t f =
-            record { sound = f ∙ sym (simp (rows_sound, le-leb s.clock clock_end u, sym e ∙ t)); marks = λ y. marks_are p }
+          module _ (t : b ≡ true) (x : Bool) (g : x ≡ sound_choice s) where
+            check_rest : x ≡ sound s
+            unfolding sound
+            check_rest = g ∙ sym (simp (rows_sound, le-leb s.clock clock_end u, sym e ∙ t))
 
-pub ruleset check_cases = (check_many, check_refused, check_kind, check_clock, check_jobs, check_rest)
+            pub check_choice : x ≡ false → sound s ≡ false
+            check_choice f = sym check_rest ∙ f
+
+            pub check_sound : x ≡ true → sound s ≡ true
+            check_sound f = sym check_rest ∙ f
+
+pub ruleset check_cases = (check_many, check_refused, check_kind, check_clock, marks_are, check_jobs, check_choice, check_sound)

@@ -1,8 +1,10 @@
 -- A start: from a slice of numbers to the fresh session, or to the refusal of the table (docs/SPECIFICATION.md §5.1).
 -- Assumes nothing.
-use Rattle.std.specs.Prelude.{ℕ, ◌+◌, ◌/◌, ◌≤◌, min, ◌≡◌, cond, List, eqb, length, get_or, set, replicate}
+use Rattle.std.specs.Prelude.{ℕ, zero, suc, ◌+◌, ◌/◌, ◌≤◌, min, ◌≡◌, refl, cond, List, [], ◌∷◌, ◌++◌, eqb, length, get_or, set, take, drop, replicate}
 use Rattle.std.proofs.Common.{sym, ap, ◌∙◌, arith, eq-eqb, ne_eqb}
-use Rattle.bounded.specs.Fold.{fold_to, put_start, put_next}
+use Rattle.std.proofs.Math.Seq.{length-take-le, take-suc, drop-cons, set-append_seam}
+use Rattle.std.proofs.lemmas.List.{append_assoc, length-replicate}
+use Rattle.bounded.specs.Fold.{fold_to}
 use Rattle.table.specs.declared.Numbers.{Numbers}
 use Rattle.table.specs.declared.Judgement.{Judgement}
 use Rattle.table.specs.declared.Verdict.{Verdict}
@@ -59,18 +61,23 @@ module _ (s : Session) (l : List ℕ) where
 
 -- ---- the code
 
-pub words_start : (l : List ℕ) → replicate 48 0 ≡ words_to l 0
+-- the first n numbers of l before what r has from place n on
+copy_to : (l r : List ℕ) (n : ℕ) → n ≤ length l → n ≤ length r → take n l ++ drop n r ≡ fold_to (λ w i. set w i (get_or l i 0)) r n
+unfolding fold_to
+copy_to l r zero h g = refl
+copy_to l r (suc n) h g =
+    let x = get_or l n 0 in
+    let rest = drop (suc n) r in
+    ap (λ (w : List ℕ). w ++ rest) (take-suc l n 0 (omega arith))
+    ∙ append_assoc (take n l) (x ∷ []) rest
+    ∙ sym (set-append_seam (take n l) (get_or r n 0) rest x)
+    ∙ ap (λ (k : ℕ). set (take n l ++ get_or r n 0 ∷ rest) k x) (length-take-le n l (omega arith))
+    ∙ ap (λ (w : List ℕ). set (take n l ++ w) n x) (sym (drop-cons r n 0 (omega arith)))
+    ∙ ap (λ (w : List ℕ). set w n x) (copy_to l r n (omega arith) (omega arith))
+
+pub words_are : (l : List ℕ) (n : ℕ) → n ≡ min (length l) 48 → take n l ++ drop n (replicate 48 0) ≡ words_to l (min (length l) 48)
 unfolding words_to
-words_start l = put_start (λ i. get_or l i 0) (replicate 48 0)
-
-pub words_next : (l w : List ℕ) (i x : ℕ) → w ≡ words_to l i → x ≡ get_or l i 0 → set w i x ≡ words_to l (i + 1)
-unfolding words_to
-words_next l w i x e f = put_next (λ i. get_or l i 0) (replicate 48 0) w i x e f
-
-pub words_done : (l w : List ℕ) (i n : ℕ) → w ≡ words_to l i → i ≤ n → n ≤ i → n ≡ min (length l) 48 → w ≡ words_to l (min (length l) 48)
-words_done l w i n e a b k = let j : i ≡ min (length l) 48 = omega arith in e ∙ ap (words_to l) j
-
-pub ruleset words_laws = (words_start, words_next, words_done)
+words_are l n e = copy_to l (replicate 48 0) n (omega arith) (omega (arith, length-replicate {A = ℕ} 48 0)) ∙ ap (words_to l) e
 
 pub fresh_is : (l w : List ℕ) (kind n : ℕ) → w ≡ words_to l (min (length l) 48) → n ≡ length l / 3
     → record { clock = 0; kind = kind; count = n; words = w; jobs = replicate 16 no_job; chosen = 0; span = 0 } ≡ fresh_of l kind

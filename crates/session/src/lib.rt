@@ -20,7 +20,8 @@ pub struct Job {
     pub budget: u64,
 }
 
-// Numbers only, so that every content of its memory is a session.
+// Numbers only, so that every content of its memory is a session: it is the C interface's, so that `kind` is no enum and `chosen`
+// with `span` no Option.
 #[repr(C)]
 #[derive(Clone, Copy)]
 pub struct Session {
@@ -37,7 +38,8 @@ pub struct Session {
     pub span: u64,
 }
 
-// What a call answers (§5.7; `show` gives the number and two values of each).
+// What a call answers (§5.7; `show` gives the number and two values of each). Accepted and refused answers are one enum and no
+// Result: a refused call leaves a session too (§5.8), every caller shows the answer by its number, and none stops at a refusal.
 #[derive(Clone, Copy)]
 pub enum Answer {
     Arrived { row: u64, due: u64 },
@@ -123,20 +125,10 @@ pub struct Outcome {
 fn copied(words: &[u32]) -> [u32; 48]
     ensures { result ≡ words_to words.now (min (length words.now) 48) }
 {
-    let n = least(words.len());
+    let n = words.len().min(48);
     let mut copy = [0u32; 48];
-    let mut i: usize = 0;
-    while i < n {
-        copy[i] = words[i];
-        i = i + 1;
-    }
+    copy[..n].copy_from_slice(&words[..n]);
     copy
-}
-
-fn least(n: usize) -> usize
-    ensures { result ≡ min n 48 }
-{
-    if n < 48 { n } else { 48 }
 }
 
 impl Session {
@@ -152,21 +144,11 @@ impl Session {
     pub fn fresh(words: &[u32], kind: u64) -> Self
         ensures { result ≡ fresh_of words.now kind }
     {
-        let count = (words.len() / 3) as u64;
-        let copy = copied(words);
         Self {
-            clock: 0,
             kind,
-            count,
-            words: copy,
-            jobs: [Job {
-                next: 0,
-                due: 0,
-                left: 0,
-                budget: 0,
-            }; 16],
-            chosen: 0,
-            span: 0,
+            count: (words.len() / 3) as u64,
+            words: copied(words),
+            ..Self::none()
         }
     }
 

@@ -5,7 +5,7 @@ ghost use Rattle.bounded.specs.All.{all_to};
 ghost use Rattle.session.specs.Reading.{clock_end};
 ghost use Rattle.session.specs.Sound.{affords, sound_job, sound_choice, sound};
 ghost use Rattle.session.specs.Ahead.{ahead_by, DueOf};
-ghost use Rattle.session.specs.Soundness.{Small, most_by, sound_by, sound_in, affords_by, Checked, unsound_with, Checks};
+ghost use Rattle.session.specs.Soundness.{Small, most_by, sound_by, sound_in, affords_by, Checked, Checks};
 
 use super::{Job, Session};
 use table::rows::Task;
@@ -14,23 +14,14 @@ use table::rows::Task;
 pub fn is_ahead(j: Job, c: u64, due: u64) -> bool
     ensures { result ≡ ahead_by j c due }
 {
-    if j.left < 1 {
-        return false;
-    }
-    if c == Session::IDLE {
-        return true;
-    }
-    j.due < due
+    0 < j.left && (c == Session::IDLE || j.due < due)
 }
 
 // Whether n is no more than j's budget, where j loses budget while c runs.
 fn covers(j: Job, c: u64, due: u64, n: u64) -> bool
     ensures { result ≡ affords_by j c due n }
 {
-    if is_ahead(j, c, due) {
-        return n <= j.budget;
-    }
-    true
+    !is_ahead(j, c, due) || n <= j.budget
 }
 
 // Whether each job that loses budget while c runs has at least n of it. Internal: its callers have tested the number of
@@ -40,12 +31,8 @@ fn covered(s: Session, c: u64, due: u64, n: u64) -> bool
     ensures { result ≡ all_to (affords s c n) s.count }
 {
     let rows = s.count as usize;
-    let mut i: usize = 0;
-    while i < rows {
-        let j = s.jobs[i];
-        if covers(j, c, due, n) {
-            i = i + 1;
-        } else {
+    for i in 0..rows {
+        if !covers(s.jobs[i], c, due, n) {
             return false;
         }
     }
@@ -75,10 +62,7 @@ fn choice_sound(s: Session) -> bool
     if k.left < 1 {
         return false;
     }
-    if k.left < span {
-        return false;
-    }
-    covered(s, c, k.due, span)
+    span <= k.left && covered(s, c, k.due, span)
 }
 
 // The most budget that a waiting job may have: D − C, and 0 where its row is brittle.
@@ -86,10 +70,7 @@ fn most_budget(brittle: bool, k: Task) -> u64
     requires { k.run ≤ k.deadline }
     ensures { result ≡ most_by brittle k }
 {
-    if brittle {
-        return 0;
-    }
-    k.deadline - k.run
+    if brittle { 0 } else { k.deadline - k.run }
 }
 
 // A row's job, with its task, the clock and the most budget that it may have.
@@ -113,10 +94,7 @@ fn job_sound(j: Job, k: Task, clock: u64, most: u64) -> bool
     if j.due + k.period != j.next + k.deadline {
         return false;
     }
-    if j.due <= clock {
-        return false;
-    }
-    j.budget <= most
+    clock < j.due && j.budget <= most
 }
 
 // Row i of a table, which is brittle or not, with its job and the clock.
@@ -138,66 +116,46 @@ fn jobs_sound(s: Session, brittle: [bool; 16]) -> bool
     let words = s.words;
     let e = 3 * n;
     let rows = &words[..e];
-    let mut i: usize = 0;
-    while i < n {
-        if row_sound(rows, i, s.jobs[i], brittle[i], clock) {
-            i = i + 1;
-        } else {
+    for i in 0..n {
+        if !row_sound(rows, i, s.jobs[i], brittle[i], clock) {
             return false;
         }
     }
     true
 }
 
-// Whether a session is sound, and if so, which of its rows are brittle, so that a call need not work that out again.
-#[derive(Clone, Copy)]
-pub struct Check {
-    pub sound: bool,
-    pub brittle: [bool; 16],
-}
-
-fn unsound(brittle: [bool; 16]) -> Check
-    ensures { result ≡ unsound_with brittle }
-{
-    Check {
-        sound: false,
-        brittle,
-    }
-}
-
-pub fn check_of(s: Session) -> Check
+// Which rows of a session are brittle, so that a call need not work that out again; none where the session is not sound.
+pub fn check_of(s: Session) -> Option<[bool; 16]>
     ensures { Checks s result }
 {
     let count = s.count;
     if Session::ROWS < count {
-        return unsound([false; 16]);
+        return None;
     }
     let words = s.words;
     let e = 3 * (count as usize);
     let k = table::kind::kind_of(&words[..e]);
-    let brittle = k.brittle;
     if k.number == 0 {
-        return unsound(brittle);
+        return None;
     }
     if k.number != s.kind {
-        return unsound(brittle);
+        return None;
     }
     if Session::CLOCK_END < s.clock {
-        return unsound(brittle);
+        return None;
     }
-    if jobs_sound(s, brittle) {
-        return Check {
-            sound: choice_sound(s),
-            brittle,
-        };
+    if !jobs_sound(s, k.brittle) {
+        return None;
     }
-    unsound(brittle)
+    if !choice_sound(s) {
+        return None;
+    }
+    Some(k.brittle)
 }
 
 // Whether the session is one that a call takes.
 pub fn is_sound(s: Session) -> bool
     ensures { result ≡ sound s }
 {
-    let c = check_of(s);
-    c.sound
+    check_of(s).is_some()
 }

@@ -5,7 +5,4 @@ use Rattle.batch.specs.Walk.{Known, turn}
 use Rattle.batch.proofs.arrive_all.Given as goal
 
 abbrev pub invariant-loop-i : goal.invariant-loop-i
-invariant-loop-i l = ((l.t, l.list) ≡ fold_to turn (l.fn.s, l.initial.list) l.i) × (l.i ≤ length l.initial.list) × Known l.t l.shared
-
-abbrev pub decreases-loop-i : goal.decreases-loop-i
-decreases-loop-i l = length l.initial.list - l.i
+invariant-loop-i l = ((l.t, l.list) ≡ fold_to turn (l.fn.s, l.initial.list) l.i) × Known l.t l.shared

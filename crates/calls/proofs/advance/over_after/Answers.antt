@@ -5,8 +5,5 @@ use Rattle.calls.proofs.advance.over_after.Goals as goal
 pub returns-then-c-eq-IDLE : goal.returns-then-c-eq-IDLE
 returns-then-c-eq-IDLE c = search (rules, over_cases)
 
-pub returns-then-left-n : goal.returns-then-left-n
-returns-then-left-n c = search (rules, over_cases)
-
 pub returns : goal.returns
 returns c = search (rules, over_cases)

@@ -10,7 +10,7 @@ loop-i-init c = search (rules, done_start)
 pub loop-i-preserved : goal.loop-i-preserved
 loop-i-preserved c =
     let a = c in
-    (search rules, aged_next _ _ _ _ _ _ c.loop-i.invariant.1 a.requires.bounds c.place_of-at.ensures.is c.aged_job.ensures)
+    aged_next _ _ _ _ _ _ c.loop-i.invariant a.requires.bounds c.place_of-at.ensures.is c.aged_job.ensures
 
 pub returns : goal.returns
 returns c = search (rules, stepped_is)

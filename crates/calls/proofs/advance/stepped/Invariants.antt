@@ -4,7 +4,4 @@ use Rattle.session.specs.Jobs.{done_to}
 use Rattle.calls.proofs.advance.stepped.Given as goal
 
 abbrev pub invariant-loop-i : goal.invariant-loop-i
-invariant-loop-i l = (l.i ≤ l.rows) × (l.q ≡ done_to l.initial.q (aged_job l.initial.q l.n) l.i)
-
-abbrev pub decreases-loop-i : goal.decreases-loop-i
-decreases-loop-i l = l.rows - l.i
+invariant-loop-i l = (l.q ≡ done_to l.initial.q (aged_job l.initial.q l.n) l.i)

@@ -1,17 +1,16 @@
 use borrow.Author.Rules.{rules}
 use Rattle.session.specs.Calls.{arrive_of}
-use Rattle.session.specs.Guard.{guarded_laws}
-use Rattle.session.specs.Soundness.{checked_marks}
+use Rattle.session.specs.Guard.{checked_laws}
 use Rattle.calls.specs.Code.{mark_of}
 use Rattle.calls.proofs.arrive.arrive.Goals as goal
 
 pub arrive_marked-requires : goal.arrive_marked-requires
-arrive_marked-requires c = search (rules, guarded_laws, checked_marks, mark_of)
+arrive_marked-requires c = search (rules, mark_of)
 
-pub returns-then-c : goal.returns-then-c
+pub returns-in_default : goal.returns-in_default
 unfolding arrive_of
-returns-then-c c = search (rules, guarded_laws)
+returns-in_default c = search (rules, checked_laws)
 
 pub returns : goal.returns
 unfolding arrive_of
-returns c = search (rules, guarded_laws)
+returns c = search (rules, checked_laws)

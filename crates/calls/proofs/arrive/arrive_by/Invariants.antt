@@ -7,7 +7,4 @@ use Rattle.calls.proofs.arrive.arrive_by.Given as goal
 
 abbrev pub invariant-loop-j : goal.invariant-loop-j
 invariant-loop-j l =
-    Asking l.t l.i l.rows l.brittle l.k l.tick l.n × (l.j ≤ l.n) × (l.asked ≡ sum_to (asked_of l.t l.i) l.j) × (l.asked ≤ 1000001000000 * l.j) × Inverses (tasks_of l.rows) l.inverses
-
-abbrev pub decreases-loop-j : goal.decreases-loop-j
-decreases-loop-j l = l.n - l.j
+    Asking l.t l.i l.rows l.brittle l.k l.tick l.n × (l.asked ≡ sum_to (asked_of l.t l.i) l.j) × (l.asked ≤ 1000001000000 * l.j) × Inverses (tasks_of l.rows) l.inverses

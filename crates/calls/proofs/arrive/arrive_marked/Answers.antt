@@ -65,7 +65,6 @@ loop-j-init c =
         known = l;
         ready = search rules;
       },
-      search rules,
       sum_start _,
       search rules,
     )
@@ -92,7 +91,7 @@ loop-j-preserved c =
     let f = c.prepare_alone-p.ensures in
     let w = c.charge-asked.ensures in
     let h = c.loop-j.invariant in
-    (k, search rules, asked_next k _ (search rules) _ _ _ f w h.2, asked_small k _ (search rules) _ _ _ f w h.3)
+    (k, asked_next k _ (search rules) _ _ _ f w h.1, asked_small k _ (search rules) _ _ _ f w h.2)
 
 pub bounds-brittle-i-2 : goal.bounds-brittle-i-2
 bounds-brittle-i-2 c = search (rules, places)
@@ -100,7 +99,7 @@ bounds-brittle-i-2 c = search (rules, places)
 pub arriving-job-requires : goal.arriving-job-requires
 arriving-job-requires c =
     let k = c.loop-j.invariant.0 in
-    (asked_run k, asked_deadline k, asked_period k, asked_clock k, asked_most k _ _ c.loop-j.invariant.3 c.loop-j.invariant.1)
+    (asked_run k, asked_deadline k, asked_period k, asked_clock k, asked_most k _ _ c.loop-j.invariant.2 (search rules))
 
 pub offset_bounds-q-i-2 : goal.offset_bounds-q-i-2
 offset_bounds-q-i-2 c = let k = c.loop-j.invariant.0 in place_fits _ (omega (arith, k.known, asked_few k))
@@ -110,4 +109,4 @@ bounds-q-i-2 c = search (rules, places)
 
 pub returns : goal.returns
 returns c =
-    let h = c.loop-j.invariant in asked_done h.0 _ _ h.3 h.1 _ (search rules) h.2 (search rules)
+    let h = c.loop-j.invariant in asked_done h.0 _ _ h.2 (search rules) _ (search rules) h.1 (search rules)

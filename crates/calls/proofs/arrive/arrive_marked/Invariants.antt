@@ -5,7 +5,4 @@ use Rattle.calls.proofs.arrive.arrive_marked.Given as goal
 
 abbrev pub invariant-loop-j : goal.invariant-loop-j
 invariant-loop-j l =
-    Asking l.q l.i l.rows l.brittle l.k l.clock l.n × (l.j ≤ l.n) × (l.asked ≡ sum_to (asked_of l.q l.i) l.j) × (l.asked ≤ 1000001000000 * l.j)
-
-abbrev pub decreases-loop-j : goal.decreases-loop-j
-decreases-loop-j l = l.n - l.j
+    Asking l.q l.i l.rows l.brittle l.k l.clock l.n × (l.asked ≡ sum_to (asked_of l.q l.i) l.j) × (l.asked ≤ 1000001000000 * l.j)

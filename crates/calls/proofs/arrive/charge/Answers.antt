@@ -5,5 +5,5 @@ use Rattle.calls.proofs.arrive.charge.Goals as goal
 pub returns-then-own : goal.returns-then-own
 returns-then-own c = search (rules, gate_cases)
 
-pub returns : goal.returns
-returns c = search (rules, gate_cases)
+pub returns-else-own : goal.returns-else-own
+returns-else-own c = search (rules, gate_cases)

@@ -1,16 +1,12 @@
 use borrow.Author.Rules.{rules}
 use Rattle.session.specs.Calls.{finish_of}
-use Rattle.session.specs.Guard.{guarded_laws}
-use Rattle.session.specs.Soundness.{checked_marks}
+use Rattle.session.specs.Guard.{checked_laws}
 use Rattle.calls.proofs.finish.finish.Goals as goal
 
-pub finish_by-requires : goal.finish_by-requires
-finish_by-requires c = search (rules, guarded_laws, checked_marks)
-
-pub returns-then-c : goal.returns-then-c
+pub returns-in_default : goal.returns-in_default
 unfolding finish_of
-returns-then-c c = search (rules, guarded_laws)
+returns-in_default c = search (rules, checked_laws)
 
 pub returns : goal.returns
 unfolding finish_of
-returns c = search (rules, guarded_laws)
+returns c = search (rules, checked_laws)

@@ -35,12 +35,16 @@ jobs_sound-requires c =
     let e : length c.args.s.words ≡ 48 = search rules in
     search (rules, check_ready)
 
-pub returns-then-jobs_sound : goal.returns-then-jobs_sound
+pub returns-then-not-jobs_sound : goal.returns-then-not-jobs_sound
 unfolding rows_of
-returns-then-jobs_sound c =
-    let e : length c.args.s.words ≡ 48 = search rules in
-    search (rules, check_cases)
+returns-then-not-jobs_sound c = search (rules, check_cases)
+
+pub returns-then-not-choice_sound : goal.returns-then-not-choice_sound
+unfolding rows_of
+returns-then-not-choice_sound c = search (rules, check_cases)
 
 pub returns : goal.returns
 unfolding rows_of
-returns c = search (rules, check_cases)
+returns c =
+    let e : length c.args.s.words ≡ 48 = search rules in
+    search (rules, check_cases)

@@ -14,11 +14,11 @@ returns-then-c-eq-IDLE c = search (rules, choice_cases)
 pub returns-then-count-c : goal.returns-then-count-c
 returns-then-count-c c = search (rules, choice_cases)
 
+pub returns-then-span-k : goal.returns-then-span-k
+returns-then-span-k c = search (rules, choice_cases)
+
+pub returns-else-span-k : goal.returns-else-span-k
+returns-else-span-k c = search (rules, choice_cases)
+
 pub returns-then-k-lt1 : goal.returns-then-k-lt1
 returns-then-k-lt1 c = search (rules, choice_cases)
-
-pub returns-then-k-span : goal.returns-then-k-span
-returns-then-k-span c = search (rules, choice_cases)
-
-pub returns : goal.returns
-returns c = search (rules, choice_cases)

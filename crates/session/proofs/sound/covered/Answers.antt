@@ -9,8 +9,8 @@ loop-i-init c = search (rules, affords_row, all_laws)
 pub loop-i-preserved : goal.loop-i-preserved
 loop-i-preserved c = search (rules, affords_row, all_laws)
 
-pub returns-else-covers : goal.returns-else-covers
-returns-else-covers c = search (rules, affords_row, all_laws)
+pub returns-then-not-covers : goal.returns-then-not-covers
+returns-then-not-covers c = search (rules, affords_row, all_laws)
 
 pub returns : goal.returns
 returns c = search (rules, affords_row, all_laws)

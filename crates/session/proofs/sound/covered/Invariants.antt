@@ -4,7 +4,4 @@ use Rattle.session.specs.Sound.{affords}
 use Rattle.session.proofs.sound.covered.Given as goal
 
 abbrev pub invariant-loop-i : goal.invariant-loop-i
-invariant-loop-i l = (l.i ≤ l.rows) × (all_to (affords l.s l.c l.n) l.i ≡ true)
-
-abbrev pub decreases-loop-i : goal.decreases-loop-i
-decreases-loop-i l = l.rows - l.i
+invariant-loop-i l = all_to (affords l.s l.c l.n) l.i ≡ true

@@ -17,8 +17,8 @@ returns-then-j-gt18014398509481984 c = search (rules, job_cases)
 pub returns-then-j-k : goal.returns-then-j-k
 returns-then-j-k c = search (rules, job_cases)
 
-pub returns-then-j-clock : goal.returns-then-j-clock
-returns-then-j-clock c = search (rules, job_cases)
+pub returns-then-clock-j : goal.returns-then-clock-j
+returns-then-clock-j c = search (rules, job_cases)
 
-pub returns : goal.returns
-returns c = search (rules, job_cases)
+pub returns-else-clock-j : goal.returns-else-clock-j
+returns-else-clock-j c = search (rules, job_cases)

@@ -20,9 +20,9 @@ pub loop-i-preserved : goal.loop-i-preserved
 unfolding rows_of
 loop-i-preserved c = search (rules, job_turn, all_laws)
 
-pub returns-else-row_sound : goal.returns-else-row_sound
+pub returns-then-not-row_sound : goal.returns-then-not-row_sound
 unfolding rows_of
-returns-else-row_sound c = search (rules, job_turn, all_laws)
+returns-then-not-row_sound c = search (rules, job_turn, all_laws)
 
 pub returns : goal.returns
 returns c = search (rules, job_turn, all_laws)

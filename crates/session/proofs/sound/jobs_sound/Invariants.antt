@@ -4,7 +4,4 @@ use Rattle.session.specs.Sound.{sound_job}
 use Rattle.session.proofs.sound.jobs_sound.Given as goal
 
 abbrev pub invariant-loop-i : goal.invariant-loop-i
-invariant-loop-i l = (l.i ≤ l.n) × (all_to (sound_job l.s) l.i ≡ true)
-
-abbrev pub decreases-loop-i : goal.decreases-loop-i
-decreases-loop-i l = l.n - l.i
+invariant-loop-i l = all_to (sound_job l.s) l.i ≡ true
