@@ -51,10 +51,8 @@ fn differing_in(s: &[u8], p: usize, q: usize, n: usize) -> u16
     ensures { Within n (apart s.now p q n) result }
 {
     let mut sum: u16 = 0;
-    let mut x: usize = 0;
-    while x < n {
-        sum = sum + differ(s[p + x], s[q + x]);
-        x = x + 1;
+    for x in 0..n {
+        sum += differ(s[p + x], s[q + x]);
     }
     sum
 }
@@ -68,11 +66,9 @@ fn first_counts(s: &[u8], h: Shape, k: usize) -> [u16; 255]
     let m = h.window;
     let p = place_of(s, h, k);
     let mut counts = [0u16; 255];
-    let mut j: usize = 0;
-    while j < n {
+    for j in 0..n {
         let q = place_of(s, h, j);
         counts[j] = differing_in(s, p, q, m);
-        j = j + 1;
     }
     counts
 }
@@ -136,10 +132,8 @@ fn alike_at(s: &[u8], h: Shape, k: usize, t: usize, counts: &mut [u16; 255]) -> 
 {
     let n = h.stretches;
     let mut c: u64 = 0;
-    let mut j: usize = 0;
-    while j < n {
-        c = c + like(s, h, k, t, j, counts);
-        j = j + 1;
+    for j in 0..n {
+        c += like(s, h, k, t, j, counts);
     }
     c
 }
@@ -176,10 +170,8 @@ fn stretch<'a>(s: &'a [u8], h: Shape, gaps: &'a [u64; 255], k: usize) -> u64
     let l = h.ticks;
     let mut counts = first_counts(s, h, k);
     let mut sum: u64 = 0;
-    let mut t: usize = 0;
-    while t < l {
-        sum = sum + gap(s, h, gaps, k, t, &mut counts);
-        t = t + 1;
+    for t in 0..l {
+        sum += gap(s, h, gaps, k, t, &mut counts);
     }
     sum
 }
@@ -191,10 +183,8 @@ fn gaps_of(n: usize) -> [u64; 255]
 {
     let top = eighths(n as u64);
     let mut gaps = [0u64; 255];
-    let mut i: usize = 0;
-    while i < n {
+    for i in 0..n {
         gaps[i] = top - eighths(i as u64 + 1);
-        i = i + 1;
     }
     gaps
 }
@@ -207,10 +197,8 @@ fn total(s: &[u8], h: Shape) -> u64
     let n = h.stretches;
     let gaps = gaps_of(n);
     let mut sum: u64 = 0;
-    let mut k: usize = 0;
-    while k < n {
-        sum = sum + stretch(s, h, &gaps, k);
-        k = k + 1;
+    for k in 0..n {
+        sum += stretch(s, h, &gaps, k);
     }
     sum
 }

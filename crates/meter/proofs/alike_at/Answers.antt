@@ -11,12 +11,6 @@ like-c-requires c = search (rules, alike_laws)
 pub overflow_add-c : goal.overflow_add-c
 overflow_add-c c = search (rules, alike_laws)
 
-pub overflow_add-j : goal.overflow_add-j
-overflow_add-j c = search (rules, alike_laws)
-
-pub loop-j-smaller : goal.loop-j-smaller
-loop-j-smaller c = search (rules, alike_laws)
-
 pub loop-j-preserved : goal.loop-j-preserved
 loop-j-preserved c = search (rules, alike_laws)
 

@@ -20,12 +20,6 @@ offset_bounds-counts-j c = search (rules, first_laws)
 pub bounds-counts-j : goal.bounds-counts-j
 bounds-counts-j c = search (rules, first_laws)
 
-pub overflow_add-j : goal.overflow_add-j
-overflow_add-j c = search (rules, first_laws)
-
-pub loop-j-smaller : goal.loop-j-smaller
-loop-j-smaller c = search (rules, first_laws)
-
 pub loop-j-preserved : goal.loop-j-preserved
 loop-j-preserved c = search (rules, first_laws)
 

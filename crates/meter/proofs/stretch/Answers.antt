@@ -14,12 +14,6 @@ gap-sum-requires c = search (rules, summing_laws)
 pub overflow_add-sum : goal.overflow_add-sum
 overflow_add-sum c = search (rules, summing_laws)
 
-pub overflow_add-t : goal.overflow_add-t
-overflow_add-t c = search (rules, summing_laws)
-
-pub loop-t-smaller : goal.loop-t-smaller
-loop-t-smaller c = search (rules, summing_laws)
-
 pub loop-t-preserved : goal.loop-t-preserved
 loop-t-preserved c = search (rules, summing_laws)
 

@@ -14,12 +14,6 @@ stretch-sum-requires c = search (rules, total_laws)
 pub overflow_add-sum : goal.overflow_add-sum
 overflow_add-sum c = search (rules, total_laws)
 
-pub overflow_add-k : goal.overflow_add-k
-overflow_add-k c = search (rules, total_laws)
-
-pub loop-k-smaller : goal.loop-k-smaller
-loop-k-smaller c = search (rules, total_laws)
-
 pub loop-k-preserved : goal.loop-k-preserved
 loop-k-preserved c = search (rules, total_laws)
 
