@@ -1,5 +1,5 @@
 -- The rule of the meter's input, as facts. Assumes nothing.
-use Rattle.std.specs.Prelude.{ℕ, ◌*◌, ◌≤◌, ◌<◌, ◌≡◌, refl, Bool, true, false, List, leb, eqb, length}
+use Rattle.std.specs.Prelude.{ℕ, ◌*◌, ◌≤◌, ◌<◌, ◌≡◌, refl, Bool, true, false, List, leb, eqb, length, Result, Ok, Err}
 use Rattle.std.proofs.Math.Path.{sym}
 use Rattle.std.proofs.Common.{ap, ◌∙◌, mul-le-mul, mul-le-mul_right, arith, Fits}
 use Rattle.std.proofs.Math.Bool.{and-false}
@@ -8,9 +8,8 @@ use Rattle.std.specs.Int.{w64}
 use borrow.Author.Tests.{le-leb, lt-leb, leb-true, eqb-true}
 use Rattle.bounded.specs.Tests.{both, and-true}
 use Rattle.meter.specs.declared.Shape.{Shape}
-use Rattle.meter.specs.declared.Meter.{Meter}
-use Rattle.meter.specs.declared.Meter.TheVariants.{Of, Refused}
-use Rattle.meter.specs.Meter.{meter_of, fits, measure_of}
+use Rattle.meter.specs.declared.BadShape.{BadShape}
+use Rattle.meter.specs.Meter.{meter_of, fits, bad_shape, measure_of}
 
 pub record Shaped (a : List ℕ) (h : Shape) : Type 0 where
   pub some : 1 ≤ h.stretches
@@ -19,14 +18,6 @@ pub record Shaped (a : List ℕ) (h : Shape) : Type 0 where
   pub within : h.window ≤ h.ticks
   pub most : length a ≤ 16384
   pub long : length a ≡ h.stretches * h.ticks
-
-abbrev is_of : Meter → Bool
-is_of (Of x) = true
-is_of Refused = false
-
-abbrev sum_in : Meter → ℕ
-sum_in (Of x) = x
-sum_in Refused = 0
 
 module _ (a : List ℕ) (h : Shape) where
   fits_rule : fits a h ≡ true → Shaped a h
@@ -52,12 +43,12 @@ module _ (a : List ℕ) (h : Shape) where
   ticks_few f = omega (arith, f.most, f.long, mul-le-mul_right {m = 1} {n = h.stretches} h.ticks f.some)
 
   -- what an answer says
-  pub measured : (x : ℕ) → measure_of a h ≡ Of x → Shaped a h × (x ≡ meter_of a h)
+  pub measured : (x : ℕ) → measure_of a h ≡ Ok x → Shaped a h × (x ≡ meter_of a h)
   unfolding measure_of
   measured x e =
       both (fits a h)
-      (λ y. let z : Of (meter_of a h) ≡ Of x = simp y at e in (fits_rule y, sym (ap sum_in z)))
-      (λ n. let z : Refused ≡ Of x = simp n at e in absurd (false≢true (ap is_of z)))
+      (λ y. let z : Ok (meter_of a h) ≡ Ok x = simp y at e in (fits_rule y, cc))
+      (λ n. let z : Err bad_shape ≡ Ok x = simp n at e in cc)
 
   -- ---- `is_fit`: the tests in order
 
@@ -103,11 +94,11 @@ module _ (a : List ℕ) (h : Shape) where
     pub measure_may : b ≡ true → Shaped a h
     measure_may y = fits_rule (sym is ∙ y)
 
-    pub measure_is : (r : ℕ) → b ≡ true → r ≡ meter_of a h → Of r ≡ measure_of a h
+    pub measure_is : (r : ℕ) → b ≡ true → r ≡ meter_of a h → Ok r ≡ measure_of a h
     unfolding measure_of
     measure_is r y e = simp (sym is ∙ y, e)
 
-    pub measure_not : b ≡ false → Refused ≡ measure_of a h
+    pub measure_not : b ≡ false → Err bad_shape ≡ measure_of a h
     unfolding measure_of
     measure_not n = simp (sym is ∙ n)
 

@@ -1,6 +1,6 @@
 use Rattle.meter.specs.Code.{first_laws}
 use borrow.Author.Rules.{rules}
-use Rattle.meter.proofs.first_counts.Goals as goal
+use Rattle.meter.proofs.Schedule.first_counts.Goals as goal
 
 pub place_of-p-requires : goal.place_of-p-requires
 place_of-p-requires c = search (rules, first_laws)

@@ -1,6 +1,6 @@
 use Rattle.meter.specs.Code.{summing_laws}
 use borrow.Author.Rules.{rules}
-use Rattle.meter.proofs.stretch.Goals as goal
+use Rattle.meter.proofs.Schedule.stretch.Goals as goal
 
 pub first_counts-counts-requires : goal.first_counts-counts-requires
 first_counts-counts-requires c = search (rules, summing_laws)

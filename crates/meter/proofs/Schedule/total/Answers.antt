@@ -1,6 +1,6 @@
 use Rattle.meter.specs.Code.{total_laws}
 use borrow.Author.Rules.{rules}
-use Rattle.meter.proofs.total.Goals as goal
+use Rattle.meter.proofs.Schedule.total.Goals as goal
 
 pub gaps_of-gaps-requires : goal.gaps_of-gaps-requires
 gaps_of-gaps-requires c = search (rules, total_laws)

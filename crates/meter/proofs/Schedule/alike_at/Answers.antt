@@ -1,6 +1,6 @@
 use Rattle.meter.specs.Code.{alike_laws}
 use borrow.Author.Rules.{rules}
-use Rattle.meter.proofs.alike_at.Goals as goal
+use Rattle.meter.proofs.Schedule.alike_at.Goals as goal
 
 pub loop-j-init : goal.loop-j-init
 loop-j-init c = search (rules, alike_laws)
