@@ -50,30 +50,13 @@ module _ (a : List ℕ) (h : Shape) where
       (λ y. let z : Ok (meter_of a h) ≡ Ok x = simp y at e in (fits_rule y, cc))
       (λ n. let z : Err bad_shape ≡ Ok x = simp n at e in cc)
 
-  -- ---- `is_fit`: the tests in order
+  -- ---- `is_fit`
 
-  pub fit_none : h.stretches < 1 → false ≡ fits a h
-  unfolding fits
-  fit_none e = simp (lt-leb 1 h.stretches e)
+  pub fit_not : (Shaped a h → ⊥) → false ≡ fits a h
+  fit_not none = both (fits a h) (λ y. absurd (none (fits_rule y))) sym
 
-  pub fit_many : 255 < h.stretches → false ≡ fits a h
-  unfolding fits
-  fit_many e = simp (lt-leb h.stretches 255 e, and-false)
-
-  pub fit_empty : h.window < 1 → false ≡ fits a h
-  unfolding fits
-  fit_empty e = simp (lt-leb 1 h.window e, and-false)
-
-  pub fit_wide : h.ticks < h.window → false ≡ fits a h
-  unfolding fits
-  fit_wide e = simp (lt-leb h.window h.ticks e, and-false)
-
-  pub fit_large : (x : ℕ) → x ≡ h.stretches * h.ticks → 16384 < x → false ≡ fits a h
-  unfolding fits
-  fit_large x q e = simp (lt-leb (h.stretches * h.ticks) 16384 (omega arith), and-false)
-
-  pub fit_long : 1 ≤ h.stretches → 16384 < h.ticks → false ≡ fits a h
-  fit_long some e = fit_large (h.stretches * h.ticks) refl (omega (arith, mul-le-mul_right {m = 1} {n = h.stretches} h.ticks some))
+  pub fit_large : 16384 < h.stretches * h.ticks → false ≡ fits a h
+  fit_large e = fit_not (λ f. omega (arith, f.most, f.long))
 
   pub fit_length : (x : ℕ) → 1 ≤ h.stretches → h.stretches ≤ 255 → 1 ≤ h.window → h.window ≤ h.ticks → x ≡ h.stretches * h.ticks → x ≤ 16384
       → eqb (length a) x ≡ fits a h
@@ -105,6 +88,6 @@ module _ (a : List ℕ) (h : Shape) where
 pub size_fits : (n l : ℕ) → n ≤ 255 → l ≤ 16384 → Fits w64 (n * l)
 size_fits n l a b = record { fits = omega (arith, mul-le-mul {n₁ = n} {m₁ = l} {n₂ = 255} {m₂ = 16384} a b) }
 
-pub ruleset fit_laws = (fit_none, fit_many, fit_empty, fit_wide, fit_large, fit_long, fit_length)
+pub ruleset fit_laws = (fit_large, fit_length)
 
 pub ruleset measure_laws = (measure_may, measure_is, measure_not)

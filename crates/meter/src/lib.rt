@@ -205,27 +205,12 @@ fn is_fit(s: &[u8], h: Shape) -> bool
     let n = h.stretches;
     let l = h.ticks;
     let m = h.window;
-    if n < 1 {
-        return false;
-    }
-    if 255 < n {
-        return false;
-    }
-    if m < 1 {
-        return false;
-    }
-    if l < m {
-        return false;
-    }
-    // So that the product does not wrap.
-    if 16384 < l {
+    // The last of these so that the product does not wrap.
+    if n < 1 || 255 < n || m < 1 || l < m || 16384 < l {
         return false;
     }
     let size = n * l;
-    if 16384 < size {
-        return false;
-    }
-    s.len() == size
+    size <= 16384 && s.len() == size
 }
 
 // How mixed a schedule is: the stretches stand one after another in the slice, a row number per tick.
