@@ -1,6 +1,6 @@
-use borrow.Author.Rules.{rules}
 use Rattle.host.specs.Explain.{telling_cases}
-use Rattle.host.proofs.telling.Goals as goal
+use borrow.Author.Rules.{rules}
+use Rattle.host.proofs.ReplyFromTold.from.Goals as goal
 
 pub returns-in-Text : goal.returns-in-Text
 returns-in-Text c = search (rules, telling_cases)
