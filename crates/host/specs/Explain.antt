@@ -1,6 +1,5 @@
 -- What is said of an explanation's text, in numbers (docs/SPECIFICATION.md §9). Assumes nothing.
 use Rattle.std.specs.Prelude.{ℕ, ◌≡◌}
-use Rattle.std.proofs.Common.{ap, ◌∙◌}
 use Rattle.explain.specs.declared.Told.{Told}
 use Rattle.explain.specs.declared.Told.TheVariants.{Text, Unsound, InForce, Short}
 use Rattle.explain.specs.Explain.{shown_told, used_told}
@@ -36,6 +35,3 @@ module _ (t : Told) where
   telling_short n e = rw e
 
 pub ruleset telling_cases = (telling_text, telling_unsound, telling_running, telling_short)
-
-pub telling_is : (x t : Told) (r : Reply) → t ≡ x → r ≡ telling_reply t → r ≡ telling_reply x
-telling_is x t r e f = f ∙ ap telling_reply e

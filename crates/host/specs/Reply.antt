@@ -1,37 +1,36 @@
 -- What the host sees of an opinion, of a start and of an outcome, in numbers (docs/SPECIFICATION.md §9). Assumes nothing.
-use Rattle.std.specs.Prelude.{ℕ, ◌≡◌, List, []}
-use Rattle.std.proofs.Common.{ap}
+use Rattle.std.specs.Prelude.{◌≡◌, []}
+use Rattle.std.proofs.Common.{sym, ap, ◌∙◌}
 use Rattle.table.specs.declared.Numbers as verdict
 use Rattle.table.specs.declared.Judgement as table
-use Rattle.table.specs.Verdict.{Opinion, opinion_of}
+use Rattle.table.specs.Verdict.{Opinion}
 use Rattle.table.specs.Opinion as opinion
-use Rattle.session.specs.declared.Session.{Session}
 use Rattle.session.specs.declared.Numbers.{Numbers}
 use Rattle.session.specs.declared.Outcome.{Outcome}
-use Rattle.session.specs.declared.start.Started.{Started}
 use Rattle.session.specs.Calls.{shown, Shows}
-use Rattle.session.specs.Start.{start_of, Starts}
+use Rattle.lent.specs.declared.Reply as lending
+use Rattle.lent.specs.declared.Opening as lending_start
+use Rattle.lent.specs.Reply as lent
 use Rattle.host.specs.declared.Reply.{Reply}
 use Rattle.host.specs.declared.Judgement.{Judgement}
 
 -- ---- definitions
 
--- a call's number, words used and two values
-unfoldable pub reply_of : Outcome → Reply
-reply_of o = record {
-  number = (shown o.answer).number;
-  used = o.used;
-  first = (shown o.answer).first;
-  second = (shown o.answer).second;
-}
+-- the reply of a lent call in numbers: its number, words used and two values
+unfoldable pub told : lending.Reply → Reply
+told r = record { number = (shown r.answer).number; used = r.used; first = (shown r.answer).first; second = (shown r.answer).second }
+
+-- and of an outcome
+abbrev pub reply_of : Outcome → Reply
+reply_of o = told (lent.reply_of o)
 
 -- an opinion's number and two values; it uses no word
 abbrev pub answered : Opinion → Reply
 answered o = record { number = o.number; used = 0; first = o.first; second = o.second }
 
 -- what a start says: the number and values of its verdict
-unfoldable pub start_reply : Started → Reply
-start_reply r = answered (opinion.shown r.verdict [])
+unfoldable pub opening_reply : lending_start.Opening → Reply
+opening_reply o = answered (opinion.shown o.verdict [])
 
 -- an opinion, with V of each row
 abbrev pub judgement_of : Opinion → Judgement
@@ -39,21 +38,20 @@ judgement_of o = record { number = o.number; first = o.first; second = o.second;
 
 -- ---- the code
 
-pub reply_is : (o : Outcome) (n : Numbers) → Shows (shown o.answer) n
-    → record { number = n.number; used = o.used; first = n.first; second = n.second } ≡ reply_of o
-unfolding reply_of
-reply_is o n h = rw (h.number, h.first, h.second)
+pub told_is : (r : lending.Reply) (n : Numbers) → Shows (shown r.answer) n
+    → record { number = n.number; used = r.used; first = n.first; second = n.second } ≡ told r
+unfolding told
+told_is r n h = rw (h.number, h.first, h.second)
 
-pub start_reply_lem : (r : Started) (n : verdict.Numbers) → opinion.Shows r.verdict n
-    → record { number = n.number; used = 0; first = n.first; second = n.second } ≡ start_reply r
-unfolding start_reply
-start_reply_lem r n h = rw (h.number, h.first, h.second)
+pub opening_reply_is : (o : lending_start.Opening) (n : verdict.Numbers) → opinion.Shows o.verdict n
+    → record { number = n.number; used = 0; first = n.first; second = n.second } ≡ opening_reply o
+unfolding opening_reply
+opening_reply_is o n h = rw (h.number, h.first, h.second)
 
-pub opened : (s : Session) (l : List ℕ) (r : Started) → Starts s l r
-    → (start_reply r ≡ answered (opinion_of l)) × (r.session ≡ start_of s l)
-unfolding start_reply
-opened s l r h = (rw (h.verdict.number, h.verdict.first, h.verdict.second), h.session)
+pub opened : (o : lending_start.Opening) (p : Opinion) (r : Reply) → opinion.Says o.verdict p → r ≡ opening_reply o → r ≡ answered p
+unfolding opening_reply
+opened o p r h e = e ∙ rw (h.number, h.first, h.second)
 
-pub judgement_is : (l : List ℕ) (j : table.Judgement) (n : verdict.Numbers) → opinion.shown_of j ≡ opinion_of l → opinion.Shows j.verdict n
-    → record { number = n.number; first = n.first; second = n.second; budgets = j.budgets } ≡ judgement_of (opinion_of l)
-judgement_is l j n h g = ap judgement_of (opinion.shows_opinion l j n h g)
+pub judgement_is : (j : table.Judgement) (n : verdict.Numbers) → opinion.Shows j.verdict n
+    → record { number = n.number; first = n.first; second = n.second; budgets = j.budgets } ≡ judgement_of (opinion.shown_of j)
+judgement_is j n g = sym (ap judgement_of (opinion.shows_of j n g))

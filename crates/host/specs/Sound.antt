@@ -1,6 +1,7 @@
 -- Soundness as a number (docs/SPECIFICATION.md §9). Assumes nothing.
-use Rattle.std.specs.Prelude.{ℕ, ◌≡◌, Bool, true, false, cond}
-use Rattle.std.proofs.Common.{sym, ◌∙◌}
+use Rattle.std.specs.Prelude.{ℕ, ◌≡◌, refl, Bool, true, false, cond}
+use Rattle.std.proofs.Common.{ap, ◌∙◌}
+use Rattle.std.specs.Int.{from_bool}
 use Rattle.session.specs.declared.Session.{Session}
 use Rattle.session.specs.Sound.{sound}
 
@@ -12,12 +13,10 @@ sound_number_lem s = cond (sound s) 1 0
 
 -- ---- the code
 
-pub number_sound : (s : Session) (b : Bool) → b ≡ sound s → b ≡ true → 1 ≡ sound_number_lem s
+pub number_is : (s : Session) (b : Bool) (r : ℕ) → b ≡ sound s → r ≡ from_bool b → r ≡ sound_number_lem s
 unfolding sound_number_lem
-number_sound s b e t = simp (sym e ∙ t)
-
-pub number_not : (s : Session) (b : Bool) → b ≡ sound s → b ≡ false → 0 ≡ sound_number_lem s
-unfolding sound_number_lem
-number_not s b e f = simp (sym e ∙ f)
-
-pub ruleset sound_cases = (number_sound, number_not)
+number_is s b r e f = f ∙ ap from_bool e ∙ of_test (sound s)
+  where
+    of_test : (b : Bool) → from_bool b ≡ cond b 1 0
+    of_test true = refl
+    of_test false = refl

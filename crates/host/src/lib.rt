@@ -4,6 +4,7 @@
 
 ghost use Rattle.std.specs.Prelude.{◌≡◌, length};
 ghost use Rattle.table.specs.Verdict.{opinion_of};
+ghost use Rattle.table.specs.Opinion.{shown_of};
 ghost use Rattle.session.specs.Start.{start_of};
 ghost use Rattle.session.specs.Calls.{arrive_of, choose_of, advance_of, finish_of};
 ghost use Rattle.session.specs.Batch.{after_all, answered_all};
@@ -11,14 +12,13 @@ ghost use Rattle.explain.specs.Explain.{told_of, buffer_of};
 ghost use Rattle.meter.specs.Meter.{measure_of};
 ghost use Rattle.host.specs.Explain.{telling_reply};
 ghost use Rattle.host.specs.Meter.{meter_reply, shape_of};
-ghost use Rattle.host.specs.Reply.{reply_of, start_reply, answered, judgement_of};
+ghost use Rattle.host.specs.Reply.{told, reply_of, opening_reply, answered, judgement_of};
 ghost use Rattle.host.specs.Sound.{sound_number_lem};
 
 use explain::Told;
-use meter::{Meter, Shape};
+use meter::{BadShape, Shape};
 use session::sound::is_sound;
-use session::start::Started;
-use session::{Arrival, Outcome, Session};
+use session::{Arrival, Session};
 
 // An answer in numbers (`shown` gives them): its number, 0 where the call is accepted; the words that a choice used; and
 // two values.
@@ -41,40 +41,102 @@ pub struct Judgement {
     pub budgets: [i64; 16],
 }
 
-fn seen(o: Outcome) -> Reply
-    ensures { result ≡ reply_of o }
-{
-    let answer = o.answer;
-    let n = session::show(answer);
-    Reply {
-        number: n.number,
-        used: o.used,
-        first: n.first,
-        second: n.second,
+impl From<lent::Reply> for Reply {
+    ghost from_gives = { λ r n. n ≡ told r };
+
+    fn from(r: lent::Reply) -> Reply {
+        let n = session::show(r.answer);
+        Reply {
+            number: n.number,
+            used: r.used,
+            first: n.first,
+            second: n.second,
+        }
     }
 }
 
 // A start uses no word.
-fn opened(o: Started) -> Reply
-    ensures { result ≡ start_reply o }
-{
-    let verdict = o.verdict;
-    let v = table::shown(verdict);
-    Reply {
-        number: v.number,
-        used: 0,
-        first: v.first,
-        second: v.second,
+impl From<lent::Opening> for Reply {
+    ghost from_gives = { λ o n. n ≡ opening_reply o };
+
+    fn from(o: lent::Opening) -> Reply {
+        let v = table::shown(o.verdict);
+        Reply {
+            number: v.number,
+            used: 0,
+            first: v.first,
+            second: v.second,
+        }
     }
 }
 
-fn sound_number(s: Session) -> u32
-    ensures { result ≡ sound_number_lem s }
-{
-    if is_sound(s) {
-        return 1;
+impl From<Told> for Reply {
+    ghost from_gives = { λ t n. n ≡ telling_reply t };
+
+    fn from(t: Told) -> Reply {
+        match t {
+            Told::Text { length, used } => Reply {
+                number: 0,
+                used,
+                first: length,
+                second: 0,
+            },
+            Told::Unsound => Reply {
+                number: 5,
+                used: 0,
+                first: 0,
+                second: 0,
+            },
+            Told::InForce(left) => Reply {
+                number: 8,
+                used: 0,
+                first: left,
+                second: 0,
+            },
+            Told::Short(n) => Reply {
+                number: 15,
+                used: 0,
+                first: n,
+                second: 0,
+            },
+        }
     }
-    0
+}
+
+impl From<Result<u64, BadShape>> for Reply {
+    ghost from_gives = { λ m n. n ≡ meter_reply m };
+
+    fn from(m: Result<u64, BadShape>) -> Reply {
+        match m {
+            Ok(n) => Reply {
+                number: 0,
+                used: 0,
+                first: n,
+                second: 0,
+            },
+            Err(BadShape) => Reply {
+                number: 14,
+                used: 0,
+                first: 0,
+                second: 0,
+            },
+        }
+    }
+}
+
+impl From<table::Judgement> for Judgement {
+    ghost from_gives = { λ j n. n ≡ judgement_of (shown_of j) };
+
+    fn from(j: table::Judgement) -> Judgement {
+        let said = table::shown(j.verdict);
+        let budgets = j.budgets;
+        Judgement {
+            number: said.number,
+            first: said.first,
+            second: said.second,
+            budgets,
+        }
+    }
 }
 
 // No session is made.
@@ -82,16 +144,7 @@ fn sound_number(s: Session) -> u32
 pub extern "C" fn shuffle_opinion(words: &[u32]) -> Judgement
     ensures { result ≡ judgement_of (opinion_of words.now) }
 {
-    let j = table::opinion(words);
-    let verdict = j.verdict;
-    let said = table::shown(verdict);
-    let budgets = j.budgets;
-    Judgement {
-        number: said.number,
-        first: said.first,
-        second: said.second,
-        budgets,
-    }
+    Judgement::from(table::opinion(words))
 }
 
 // In place of whatever the record held, which a refused table leaves as it was.
@@ -99,18 +152,14 @@ pub extern "C" fn shuffle_opinion(words: &[u32]) -> Judgement
 pub extern "C" fn shuffle_start(s: &mut Session, words: &[u32]) -> Reply
     ensures { (result ≡ answered (opinion_of words.now)) × (s.new ≡ start_of s.old words.now) }
 {
-    let o = session::start::start_on(*s, words);
-    *s = o.session;
-    opened(o)
+    Reply::from(lent::start(s, words))
 }
 
 #[unsafe(no_mangle)]
 pub extern "C" fn shuffle_arrive(s: &mut Session, row: u64) -> Reply
     ensures { (result ≡ reply_of (arrive_of s.old row)) × (s.new ≡ (arrive_of s.old row).session) }
 {
-    let o = calls::arrive::arrive(*s, row);
-    *s = o.session;
-    seen(o)
+    Reply::from(lent::arrive(s, row))
 }
 
 // The records of a list arrive in order; each gets its answer.
@@ -118,80 +167,35 @@ pub extern "C" fn shuffle_arrive(s: &mut Session, row: u64) -> Reply
 pub extern "C" fn shuffle_arrive_all(s: &mut Session, list: &mut [Arrival])
     ensures { (s.new ≡ after_all s.old list.old) × (list.new ≡ answered_all s.old list.old) }
 {
-    *s = batch::arrive_all(*s, list);
+    lent::arrive_all(s, list);
 }
 
 #[unsafe(no_mangle)]
 pub extern "C" fn shuffle_choose(s: &mut Session, words: &[u32]) -> Reply
     ensures { (result ≡ reply_of (choose_of s.old words.now)) × (s.new ≡ (choose_of s.old words.now).session) }
 {
-    let o = choice::choose(*s, words);
-    *s = o.session;
-    seen(o)
+    Reply::from(lent::choose(s, words))
 }
 
 #[unsafe(no_mangle)]
 pub extern "C" fn shuffle_advance(s: &mut Session, n: u64) -> Reply
     ensures { (result ≡ reply_of (advance_of s.old n)) × (s.new ≡ (advance_of s.old n).session) }
 {
-    let o = calls::advance::advance(*s, n);
-    *s = o.session;
-    seen(o)
+    Reply::from(lent::advance(s, n))
 }
 
 #[unsafe(no_mangle)]
 pub extern "C" fn shuffle_finish(s: &mut Session) -> Reply
     ensures { (result ≡ reply_of (finish_of s.old)) × (s.new ≡ (finish_of s.old).session) }
 {
-    let o = calls::finish::finish(*s);
-    *s = o.session;
-    seen(o)
+    Reply::from(lent::finish(s))
 }
 
 #[unsafe(no_mangle)]
 pub extern "C" fn shuffle_is_sound(s: &Session) -> u32
     ensures { result ≡ sound_number_lem s.now }
 {
-    sound_number(*s)
-}
-
-fn telling(t: Told) -> Reply
-    ensures { result ≡ telling_reply t }
-{
-    match t {
-        Told::Text { length, used } => Reply {
-            number: 0,
-            used,
-            first: length,
-            second: 0,
-        },
-        Told::Unsound => Reply {
-            number: 5,
-            used: 0,
-            first: 0,
-            second: 0,
-        },
-        Told::InForce(left) => Reply {
-            number: 8,
-            used: 0,
-            first: left,
-            second: 0,
-        },
-        Told::Short(n) => Reply {
-            number: 15,
-            used: 0,
-            first: n,
-            second: 0,
-        },
-    }
-}
-
-// The session by value: `shuffle_explain` only reads the host's record.
-fn explained(s: Session, words: &[u32], out: &mut [u8]) -> Reply
-    ensures { (result ≡ telling_reply (told_of s words.now (length out.old))) × (out.new ≡ buffer_of s words.now out.old) }
-{
-    let t = explain::tell(s, words, out);
-    telling(t)
+    u32::from(is_sound(*s))
 }
 
 // The text of what choose answers on these words, and why, in a buffer of the host. The record is only read.
@@ -199,26 +203,7 @@ fn explained(s: Session, words: &[u32], out: &mut [u8]) -> Reply
 pub extern "C" fn shuffle_explain(s: &Session, words: &[u32], out: &mut [u8]) -> Reply
     ensures { (result ≡ telling_reply (told_of s.now words.now (length out.old))) × (out.new ≡ buffer_of s.now words.now out.old) }
 {
-    explained(*s, words, out)
-}
-
-fn metered(m: Meter) -> Reply
-    ensures { result ≡ meter_reply m }
-{
-    match m {
-        Meter::Of(n) => Reply {
-            number: 0,
-            used: 0,
-            first: n,
-            second: 0,
-        },
-        Meter::Refused => Reply {
-            number: 14,
-            used: 0,
-            first: 0,
-            second: 0,
-        },
-    }
+    Reply::from(lent::explain(s, words, out))
 }
 
 // How mixed a schedule is: stretches one after another, a row number per tick.
@@ -232,14 +217,11 @@ pub extern "C" fn shuffle_meter(
 ) -> Reply
     ensures { result ≡ meter_reply (measure_of rows.now (shape_of stretches ticks window threshold)) }
 {
-    let m = meter::measure(
-        rows,
-        Shape {
-            stretches,
-            ticks,
-            window,
-            threshold,
-        },
-    );
-    metered(m)
+    let shape = Shape {
+        stretches,
+        ticks,
+        window,
+        threshold,
+    };
+    Reply::from(meter::measure(rows, shape))
 }

@@ -29,30 +29,29 @@ pub struct Opening {
     pub verdict: Verdict,
 }
 
-// What the host sees of an outcome.
-fn seen(o: Outcome) -> Reply
-    ensures { result ≡ reply_of o }
-{
-    let answer = o.answer;
-    Reply {
-        answer,
-        used: o.used,
+impl From<Started> for Opening {
+    ghost from_gives = { λ o r. r ≡ opening_of o };
+
+    fn from(o: Started) -> Opening {
+        Opening { verdict: o.verdict }
     }
 }
 
-fn opened(o: Started) -> Opening
-    ensures { result ≡ opening_of o }
+// What the host sees of an outcome. The session that the call leaves goes into the record.
+fn hand_back(o: Outcome, s: &mut Session) -> Reply
+    ensures { (result ≡ reply_of o) × (s.new ≡ o.session) }
 {
-    let verdict = o.verdict;
-    Opening { verdict }
+    *s = o.session;
+    Reply {
+        answer: o.answer,
+        used: o.used,
+    }
 }
 
 pub fn arrive(s: &mut Session, row: u64) -> Reply
     ensures { (result ≡ reply_of (arrive_of s.old row)) × (s.new ≡ (arrive_of s.old row).session) }
 {
-    let o = calls::arrive::arrive(*s, row);
-    *s = o.session;
-    seen(o)
+    hand_back(calls::arrive::arrive(*s, row), s)
 }
 
 // The records of a list arrive in order; each gets its answer.
@@ -65,25 +64,19 @@ pub fn arrive_all(s: &mut Session, list: &mut [Arrival])
 pub fn choose(s: &mut Session, words: &[u32]) -> Reply
     ensures { (result ≡ reply_of (choose_of s.old words.now)) × (s.new ≡ (choose_of s.old words.now).session) }
 {
-    let o = choice::choose(*s, words);
-    *s = o.session;
-    seen(o)
+    hand_back(choice::choose(*s, words), s)
 }
 
 pub fn advance(s: &mut Session, n: u64) -> Reply
     ensures { (result ≡ reply_of (advance_of s.old n)) × (s.new ≡ (advance_of s.old n).session) }
 {
-    let o = calls::advance::advance(*s, n);
-    *s = o.session;
-    seen(o)
+    hand_back(calls::advance::advance(*s, n), s)
 }
 
 pub fn finish(s: &mut Session) -> Reply
     ensures { (result ≡ reply_of (finish_of s.old)) × (s.new ≡ (finish_of s.old).session) }
 {
-    let o = calls::finish::finish(*s);
-    *s = o.session;
-    seen(o)
+    hand_back(calls::finish::finish(*s), s)
 }
 
 // In place of whatever the record held, which a refused table leaves as it was.
@@ -92,7 +85,7 @@ pub fn start(s: &mut Session, words: &[u32]) -> Opening
 {
     let o = session::start::start_on(*s, words);
     *s = o.session;
-    opened(o)
+    Opening::from(o)
 }
 
 // The text of what choose answers on these words, and why, in a buffer of the host. The record is only read.

@@ -14,10 +14,8 @@ fn put(rt: &impl Print, n: u64) -> io::Result<()>
 }
 
 fn put_all(rt: &impl Print) -> io::Result<()> {
-    let mut n: u64 = 1;
-    while n < 256 {
+    for n in 1..256 {
         put(rt, n)?;
-        n = n + 1;
     }
     Ok(())
 }

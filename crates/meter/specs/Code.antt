@@ -1,11 +1,11 @@
 -- What the code of the meter needs. Assumes nothing.
-use Rattle.std.specs.Prelude.{ℕ, suc, ◌+◌, ◌-◌, ◌*◌, ◌%◌, ◌≤◌, ◌<◌, ◌≡◌, refl, not, List, leb, eqb, length, get_or, set, replicate}
+use Rattle.std.specs.Prelude.{ℕ, suc, ◌+◌, ◌-◌, ◌*◌, ◌%◌, ◌≤◌, ◌<◌, ◌≡◌, refl, Bool, true, false, not, List, leb, eqb, length, get_or, set, replicate}
 use Rattle.std.proofs.Common.{sym, ◌∙◌, mul-le-mul_right, mod-lt, Fits}
 use Rattle.std.proofs.Math.Path.{ap}
 use Rattle.std.proofs.Math.Nat.{mod-eq_of_lt, mod-eq-sub-mod}
 use native.Mathlib.Omega.{arith}
 use Rattle.std.proofs.Math.ListN.{length-replicate}
-use Rattle.std.specs.Int.{w64}
+use Rattle.std.specs.Int.{w64, from_bool}
 use Rattle.bounded.specs.Tests.{gate}
 use Rattle.bounded.specs.Within.{Within}
 use Rattle.bounded.specs.Sum.{sum_to, sum_start, sum_next, sum_done, sum_eq}
@@ -33,11 +33,20 @@ pub place_is : (a : List ℕ) (h : Shape) (k : ℕ) → Shaped a h → k < h.str
 place_is a h k f l =
     record { is = refl; room = omega (arith, stretch_room k h.stretches h.ticks l, f.long); small = f.most; window = f.within }
 
--- ---- `differ`
+-- ---- `differ` and `near`
 
-pub differ_is : (x y r : ℕ) → Within 1 (gate (not (eqb x y)) 1) r → Within 1 (differ_by x y) r
+-- a test as a number
+test_is : (b : Bool) (r : ℕ) → r ≡ from_bool b → Within 1 (gate b 1) r
+unfolding gate
+test_is true r e = record { is = e; small = omega arith }
+test_is false r e = record { is = e; small = omega arith }
+
+pub differ_is : (x y r : ℕ) → r ≡ from_bool (not (eqb x y)) → Within 1 (differ_by x y) r
 unfolding differ_by
-differ_is x y r w = w
+differ_is x y r e = test_is (not (eqb x y)) r e
+
+pub near_is : (d w x r : ℕ) → w ≡ d → r ≡ from_bool (leb w x) → Within 1 (gate (leb d x) 1) r
+near_is d w x r f e = test_is (leb d x) r (e ∙ rw f)
 
 -- ---- `differing`
 

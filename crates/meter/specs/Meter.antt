@@ -1,11 +1,10 @@
 -- How mixed a schedule is (docs/SPECIFICATION.md §10.1). Assumes nothing. Definitions only.
-use Rattle.std.specs.Prelude.{ℕ, ◌+◌, ◌-◌, ◌*◌, ◌%◌, Bool, not, ◌&&◌, cond, List, leb, eqb, length, get_or}
+use Rattle.std.specs.Prelude.{ℕ, ◌+◌, ◌-◌, ◌*◌, ◌%◌, Bool, not, ◌&&◌, cond, List, leb, eqb, length, get_or, Result, Ok, Err}
 use Rattle.bounded.specs.Tests.{gate}
 use Rattle.bounded.specs.Sum.{sum_to}
 use Rattle.meter.specs.Log.{eighths_of}
 use Rattle.meter.specs.declared.Shape.{Shape}
-use Rattle.meter.specs.declared.Meter.{Meter}
-use Rattle.meter.specs.declared.Meter.TheVariants.{Of, Refused}
+use Rattle.meter.specs.declared.BadShape.{BadShape}
 
 -- 1 where two rows differ
 unfoldable pub differ_by : ℕ → ℕ → ℕ
@@ -47,6 +46,9 @@ fits a h =
     leb 1 h.stretches && leb h.stretches 255 && leb 1 h.window && leb h.window h.ticks
     && leb (h.stretches * h.ticks) 16384 && eqb (length a) (h.stretches * h.ticks)
 
+abbrev pub bad_shape : BadShape
+bad_shape = record {}
+
 -- the meter, or 14 where the rule is broken
-unfoldable pub measure_of : List ℕ → Shape → Meter
-measure_of a h = cond (fits a h) (Of (meter_of a h)) Refused
+unfoldable pub measure_of : List ℕ → Shape → Result ℕ BadShape
+measure_of a h = cond (fits a h) (Ok (meter_of a h)) (Err bad_shape)

@@ -1,5 +1,5 @@
 -- The rule of the meter's input, as facts. Assumes nothing.
-use Rattle.std.specs.Prelude.{ℕ, ◌*◌, ◌≤◌, ◌<◌, ◌≡◌, refl, Bool, true, false, List, leb, eqb, length}
+use Rattle.std.specs.Prelude.{ℕ, ◌*◌, ◌≤◌, ◌<◌, ◌≡◌, refl, Bool, true, false, List, leb, eqb, length, Result, Ok, Err}
 use Rattle.std.proofs.Math.Path.{sym}
 use Rattle.std.proofs.Common.{ap, ◌∙◌, mul-le-mul, mul-le-mul_right, arith, Fits}
 use Rattle.std.proofs.Math.Bool.{and-false}
@@ -8,9 +8,8 @@ use Rattle.std.specs.Int.{w64}
 use borrow.Author.Tests.{le-leb, lt-leb, leb-true, eqb-true}
 use Rattle.bounded.specs.Tests.{both, and-true}
 use Rattle.meter.specs.declared.Shape.{Shape}
-use Rattle.meter.specs.declared.Meter.{Meter}
-use Rattle.meter.specs.declared.Meter.TheVariants.{Of, Refused}
-use Rattle.meter.specs.Meter.{meter_of, fits, measure_of}
+use Rattle.meter.specs.declared.BadShape.{BadShape}
+use Rattle.meter.specs.Meter.{meter_of, fits, bad_shape, measure_of}
 
 pub record Shaped (a : List ℕ) (h : Shape) : Type 0 where
   pub some : 1 ≤ h.stretches
@@ -19,14 +18,6 @@ pub record Shaped (a : List ℕ) (h : Shape) : Type 0 where
   pub within : h.window ≤ h.ticks
   pub most : length a ≤ 16384
   pub long : length a ≡ h.stretches * h.ticks
-
-abbrev is_of : Meter → Bool
-is_of (Of x) = true
-is_of Refused = false
-
-abbrev sum_in : Meter → ℕ
-sum_in (Of x) = x
-sum_in Refused = 0
 
 module _ (a : List ℕ) (h : Shape) where
   fits_rule : fits a h ≡ true → Shaped a h
@@ -52,37 +43,20 @@ module _ (a : List ℕ) (h : Shape) where
   ticks_few f = omega (arith, f.most, f.long, mul-le-mul_right {m = 1} {n = h.stretches} h.ticks f.some)
 
   -- what an answer says
-  pub measured : (x : ℕ) → measure_of a h ≡ Of x → Shaped a h × (x ≡ meter_of a h)
+  pub measured : (x : ℕ) → measure_of a h ≡ Ok x → Shaped a h × (x ≡ meter_of a h)
   unfolding measure_of
   measured x e =
       both (fits a h)
-      (λ y. let z : Of (meter_of a h) ≡ Of x = simp y at e in (fits_rule y, sym (ap sum_in z)))
-      (λ n. let z : Refused ≡ Of x = simp n at e in absurd (false≢true (ap is_of z)))
+      (λ y. let z : Ok (meter_of a h) ≡ Ok x = simp y at e in (fits_rule y, cc))
+      (λ n. let z : Err bad_shape ≡ Ok x = simp n at e in cc)
 
-  -- ---- `is_fit`: the tests in order
+  -- ---- `is_fit`
 
-  pub fit_none : h.stretches < 1 → false ≡ fits a h
-  unfolding fits
-  fit_none e = simp (lt-leb 1 h.stretches e)
+  pub fit_not : (Shaped a h → ⊥) → false ≡ fits a h
+  fit_not none = both (fits a h) (λ y. absurd (none (fits_rule y))) sym
 
-  pub fit_many : 255 < h.stretches → false ≡ fits a h
-  unfolding fits
-  fit_many e = simp (lt-leb h.stretches 255 e, and-false)
-
-  pub fit_empty : h.window < 1 → false ≡ fits a h
-  unfolding fits
-  fit_empty e = simp (lt-leb 1 h.window e, and-false)
-
-  pub fit_wide : h.ticks < h.window → false ≡ fits a h
-  unfolding fits
-  fit_wide e = simp (lt-leb h.window h.ticks e, and-false)
-
-  pub fit_large : (x : ℕ) → x ≡ h.stretches * h.ticks → 16384 < x → false ≡ fits a h
-  unfolding fits
-  fit_large x q e = simp (lt-leb (h.stretches * h.ticks) 16384 (omega arith), and-false)
-
-  pub fit_long : 1 ≤ h.stretches → 16384 < h.ticks → false ≡ fits a h
-  fit_long some e = fit_large (h.stretches * h.ticks) refl (omega (arith, mul-le-mul_right {m = 1} {n = h.stretches} h.ticks some))
+  pub fit_large : 16384 < h.stretches * h.ticks → false ≡ fits a h
+  fit_large e = fit_not (λ f. omega (arith, f.most, f.long))
 
   pub fit_length : (x : ℕ) → 1 ≤ h.stretches → h.stretches ≤ 255 → 1 ≤ h.window → h.window ≤ h.ticks → x ≡ h.stretches * h.ticks → x ≤ 16384
       → eqb (length a) x ≡ fits a h
@@ -103,17 +77,17 @@ module _ (a : List ℕ) (h : Shape) where
     pub measure_may : b ≡ true → Shaped a h
     measure_may y = fits_rule (sym is ∙ y)
 
-    pub measure_is : (r : ℕ) → b ≡ true → r ≡ meter_of a h → Of r ≡ measure_of a h
+    pub measure_is : (r : ℕ) → b ≡ true → r ≡ meter_of a h → Ok r ≡ measure_of a h
     unfolding measure_of
     measure_is r y e = simp (sym is ∙ y, e)
 
-    pub measure_not : b ≡ false → Refused ≡ measure_of a h
+    pub measure_not : b ≡ false → Err bad_shape ≡ measure_of a h
     unfolding measure_of
     measure_not n = simp (sym is ∙ n)
 
 pub size_fits : (n l : ℕ) → n ≤ 255 → l ≤ 16384 → Fits w64 (n * l)
 size_fits n l a b = record { fits = omega (arith, mul-le-mul {n₁ = n} {m₁ = l} {n₂ = 255} {m₂ = 16384} a b) }
 
-pub ruleset fit_laws = (fit_none, fit_many, fit_empty, fit_wide, fit_large, fit_long, fit_length)
+pub ruleset fit_laws = (fit_large, fit_length)
 
 pub ruleset measure_laws = (measure_may, measure_is, measure_not)

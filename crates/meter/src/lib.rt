@@ -8,7 +8,6 @@ ghost use Rattle.meter.specs.Meter.{differ_by, differing, fits, alike, gap_at, s
 ghost use Rattle.meter.specs.Rule.{Shaped};
 ghost use Rattle.meter.specs.Code.{Place, apart, Counts, Joins, Moving, Moved, like_at, gaps_of_lem};
 
-use bounded::one;
 use log::eighths;
 
 pub mod log;
@@ -23,26 +22,23 @@ pub struct Shape {
     pub threshold: u64,
 }
 
-#[derive(Clone, Copy)]
-pub enum Meter {
-    Of(u64),
-    // 14: K, L, m or the slice's length breaks the rule.
-    Refused,
-}
+// The refusal 14: K, L, m or the slice's length breaks the rule.
+#[derive(Clone, Copy, Debug, PartialEq, Eq)]
+pub struct BadShape;
 
-// Where stretch k begins in the slice.
-fn place_of(s: &[u8], h: Shape, k: usize) -> usize
-    requires { Shaped s.now h × (k < h.stretches) }
-    ensures { Place s.now h k result }
-{
-    k * h.ticks
+// A slice that keeps the rule: the stretches one after another, a row number per tick.
+#[derive(Clone, Copy)]
+struct Schedule<'a> {
+    rows: &'a [u8],
+    shape: Shape,
+    ghost shaped: { Shaped rows.now shape },
 }
 
 // 1 if two rows differ.
 fn differ(x: u8, y: u8) -> u16
     ensures { Within 1 (differ_by x y) result }
 {
-    one(x != y) as u16
+    u16::from(x != y)
 }
 
 // In how many of the n ticks from places p and q on the rows differ.
@@ -51,30 +47,10 @@ fn differing_in(s: &[u8], p: usize, q: usize, n: usize) -> u16
     ensures { Within n (apart s.now p q n) result }
 {
     let mut sum: u16 = 0;
-    let mut x: usize = 0;
-    while x < n {
-        sum = sum + differ(s[p + x], s[q + x]);
-        x = x + 1;
+    for x in 0..n {
+        sum += differ(s[p + x], s[q + x]);
     }
     sum
-}
-
-// In how many ticks the first interval of stretch k and that of each stretch differ.
-fn first_counts(s: &[u8], h: Shape, k: usize) -> [u16; 255]
-    requires { Shaped s.now h × (k < h.stretches) }
-    ensures { Counts s.now h k 0 result }
-{
-    let n = h.stretches;
-    let m = h.window;
-    let p = place_of(s, h, k);
-    let mut counts = [0u16; 255];
-    let mut j: usize = 0;
-    while j < n {
-        let q = place_of(s, h, j);
-        counts[j] = differing_in(s, p, q, m);
-        j = j + 1;
-    }
-    counts
 }
 
 // Tick x, counted around the end of a stretch of l ticks.
@@ -86,16 +62,6 @@ fn around(x: usize, l: usize) -> usize
         return x;
     }
     x - l
-}
-
-// The tick that joins an interval when it goes one tick on from t.
-fn joining(s: &[u8], h: Shape, t: usize) -> usize
-    requires { Shaped s.now h × (t < h.ticks) }
-    ensures { Joins h t result }
-{
-    let m = h.window;
-    let l = h.ticks;
-    around(t + m, l)
 }
 
 // A count d one tick on: tick t leaves the intervals of the stretches at places p and q, and tick e joins them.
@@ -112,36 +78,7 @@ fn moved(s: &[u8], p: usize, q: usize, t: usize, e: usize, d: u16) -> u16
 fn near(d: u16, threshold: u64) -> u64
     ensures { Within 1 (gate (leb d threshold) 1) result }
 {
-    one(d as u64 <= threshold)
-}
-
-// 1 if stretch j is like stretch k at tick t. Its count goes one tick on.
-fn like(s: &[u8], h: Shape, k: usize, t: usize, j: usize, counts: &mut [u16; 255]) -> u64
-    requires { Shaped s.now h × (k < h.stretches) × (t < h.ticks) × (j < h.stretches) × (get_or counts.old j 0 ≡ differing s.now h k j t) }
-    ensures { Within 1 (like_at s.now h k t j) result × (counts.new ≡ set counts.old j (differing s.now h k j (t + 1))) }
-{
-    let p = place_of(s, h, k);
-    let q = place_of(s, h, j);
-    let e = joining(s, h, t);
-    let d = counts[j];
-    counts[j] = moved(s, p, q, t, e, d);
-    let threshold = h.threshold;
-    near(d, threshold)
-}
-
-// How many stretches are like stretch k at tick t. The counts go one tick on.
-fn alike_at(s: &[u8], h: Shape, k: usize, t: usize, counts: &mut [u16; 255]) -> u64
-    requires { Shaped s.now h × (k < h.stretches) × (t < h.ticks) × Counts s.now h k t counts.old }
-    ensures { (result ≡ alike s.now h k t) × Counts s.now h k (t + 1) counts.new }
-{
-    let n = h.stretches;
-    let mut c: u64 = 0;
-    let mut j: usize = 0;
-    while j < n {
-        c = c + like(s, h, k, t, j, counts);
-        j = j + 1;
-    }
-    c
+    u64::from(u64::from(d) <= threshold)
 }
 
 // The gap of c.
@@ -152,38 +89,6 @@ fn entry(gaps: &[u64; 255], c: u64) -> u64
     gaps[(c - 1) as usize]
 }
 
-// What tick t of stretch k adds to the meter. The counts go one tick on.
-fn gap<'a>(
-    s: &'a [u8],
-    h: Shape,
-    gaps: &'a [u64; 255],
-    k: usize,
-    t: usize,
-    counts: &mut [u16; 255],
-) -> u64
-    requires { Shaped s.now h × (gaps.now ≡ gaps_of_lem h.stretches) × (k < h.stretches) × (t < h.ticks) × Counts s.now h k t counts.old }
-    ensures { Within 63 (gap_at s.now h k t) result × Counts s.now h k (t + 1) counts.new }
-{
-    let c = alike_at(s, h, k, t, counts);
-    entry(gaps, c)
-}
-
-// What stretch k adds to the meter.
-fn stretch<'a>(s: &'a [u8], h: Shape, gaps: &'a [u64; 255], k: usize) -> u64
-    requires { Shaped s.now h × (gaps.now ≡ gaps_of_lem h.stretches) × (k < h.stretches) }
-    ensures { Within 1032192 (stretch_of s.now h k) result }
-{
-    let l = h.ticks;
-    let mut counts = first_counts(s, h, k);
-    let mut sum: u64 = 0;
-    let mut t: usize = 0;
-    while t < l {
-        sum = sum + gap(s, h, gaps, k, t, &mut counts);
-        t = t + 1;
-    }
-    sum
-}
-
 // g(n) - g(c) for each c from 1 to n, in place c - 1: the logarithms are worked out once, and not at each tick.
 fn gaps_of(n: usize) -> [u64; 255]
     requires { (1 ≤ n) × (n ≤ 255) }
@@ -191,28 +96,106 @@ fn gaps_of(n: usize) -> [u64; 255]
 {
     let top = eighths(n as u64);
     let mut gaps = [0u64; 255];
-    let mut i: usize = 0;
-    while i < n {
+    for i in 0..n {
         gaps[i] = top - eighths(i as u64 + 1);
-        i = i + 1;
     }
     gaps
 }
 
-// The meter of a slice that keeps the rule.
-fn total(s: &[u8], h: Shape) -> u64
-    requires { Shaped s.now h }
-    ensures { result ≡ meter_of s.now h }
-{
-    let n = h.stretches;
-    let gaps = gaps_of(n);
-    let mut sum: u64 = 0;
-    let mut k: usize = 0;
-    while k < n {
-        sum = sum + stretch(s, h, &gaps, k);
-        k = k + 1;
+impl Schedule<'_> {
+    // Where stretch k begins in the slice.
+    fn place_of(&self, k: usize) -> usize
+        requires { k < self.now.shape.stretches }
+        ensures { Place self.now.rows.now self.now.shape k result }
+    {
+        k * self.shape.ticks
     }
-    sum
+
+    // In how many ticks the first interval of stretch k and that of each stretch differ.
+    fn first_counts(&self, k: usize) -> [u16; 255]
+        requires { k < self.now.shape.stretches }
+        ensures { Counts self.now.rows.now self.now.shape k 0 result }
+    {
+        let n = self.shape.stretches;
+        let m = self.shape.window;
+        let p = self.place_of(k);
+        let mut counts = [0u16; 255];
+        for j in 0..n {
+            let q = self.place_of(j);
+            counts[j] = differing_in(self.rows, p, q, m);
+        }
+        counts
+    }
+
+    // The tick that joins an interval when it goes one tick on from t.
+    fn joining(&self, t: usize) -> usize
+        requires { t < self.now.shape.ticks }
+        ensures { Joins self.now.shape t result }
+    {
+        around(t + self.shape.window, self.shape.ticks)
+    }
+
+    // 1 if stretch j is like stretch k at tick t. Its count goes one tick on.
+    fn like(&self, k: usize, t: usize, j: usize, counts: &mut [u16; 255]) -> u64
+        requires { (k < self.now.shape.stretches) × (t < self.now.shape.ticks) × (j < self.now.shape.stretches) × (get_or counts.old j 0 ≡ differing self.now.rows.now self.now.shape k j t) }
+        ensures { Within 1 (like_at self.now.rows.now self.now.shape k t j) result × (counts.new ≡ set counts.old j (differing self.now.rows.now self.now.shape k j (t + 1))) }
+    {
+        let p = self.place_of(k);
+        let q = self.place_of(j);
+        let e = self.joining(t);
+        let d = counts[j];
+        counts[j] = moved(self.rows, p, q, t, e, d);
+        near(d, self.shape.threshold)
+    }
+
+    // How many stretches are like stretch k at tick t. The counts go one tick on.
+    fn alike_at(&self, k: usize, t: usize, counts: &mut [u16; 255]) -> u64
+        requires { (k < self.now.shape.stretches) × (t < self.now.shape.ticks) × Counts self.now.rows.now self.now.shape k t counts.old }
+        ensures { (result ≡ alike self.now.rows.now self.now.shape k t) × Counts self.now.rows.now self.now.shape k (t + 1) counts.new }
+    {
+        let n = self.shape.stretches;
+        let mut c: u64 = 0;
+        for j in 0..n {
+            c += self.like(k, t, j, counts);
+        }
+        c
+    }
+
+    // What tick t of stretch k adds to the meter. The counts go one tick on.
+    fn gap(&self, gaps: &[u64; 255], k: usize, t: usize, counts: &mut [u16; 255]) -> u64
+        requires { (gaps.now ≡ gaps_of_lem self.now.shape.stretches) × (k < self.now.shape.stretches) × (t < self.now.shape.ticks) × Counts self.now.rows.now self.now.shape k t counts.old }
+        ensures { Within 63 (gap_at self.now.rows.now self.now.shape k t) result × Counts self.now.rows.now self.now.shape k (t + 1) counts.new }
+    {
+        let c = self.alike_at(k, t, counts);
+        entry(gaps, c)
+    }
+
+    // What stretch k adds to the meter.
+    fn stretch(&self, gaps: &[u64; 255], k: usize) -> u64
+        requires { (gaps.now ≡ gaps_of_lem self.now.shape.stretches) × (k < self.now.shape.stretches) }
+        ensures { Within 1032192 (stretch_of self.now.rows.now self.now.shape k) result }
+    {
+        let l = self.shape.ticks;
+        let mut counts = self.first_counts(k);
+        let mut sum: u64 = 0;
+        for t in 0..l {
+            sum += self.gap(gaps, k, t, &mut counts);
+        }
+        sum
+    }
+
+    // The meter.
+    fn total(&self) -> u64
+        ensures { result ≡ meter_of self.now.rows.now self.now.shape }
+    {
+        let n = self.shape.stretches;
+        let gaps = gaps_of(n);
+        let mut sum: u64 = 0;
+        for k in 0..n {
+            sum += self.stretch(&gaps, k);
+        }
+        sum
+    }
 }
 
 // Whether K, L, m and the slice's length keep the rule.
@@ -222,35 +205,21 @@ fn is_fit(s: &[u8], h: Shape) -> bool
     let n = h.stretches;
     let l = h.ticks;
     let m = h.window;
-    if n < 1 {
-        return false;
-    }
-    if 255 < n {
-        return false;
-    }
-    if m < 1 {
-        return false;
-    }
-    if l < m {
-        return false;
-    }
-    // So that the product does not wrap.
-    if 16384 < l {
+    // The last of these so that the product does not wrap.
+    if n < 1 || 255 < n || m < 1 || l < m || 16384 < l {
         return false;
     }
     let size = n * l;
-    if 16384 < size {
-        return false;
-    }
-    s.len() == size
+    size <= 16384 && s.len() == size
 }
 
 // How mixed a schedule is: the stretches stand one after another in the slice, a row number per tick.
-pub fn measure(s: &[u8], h: Shape) -> Meter
+pub fn measure(s: &[u8], h: Shape) -> Result<u64, BadShape>
     ensures { result ≡ measure_of s.now h }
 {
-    if is_fit(s, h) {
-        return Meter::Of(total(s, h));
+    if !is_fit(s, h) {
+        return Err(BadShape);
     }
-    Meter::Refused
+    let schedule = Schedule { rows: s, shape: h };
+    Ok(schedule.total())
 }

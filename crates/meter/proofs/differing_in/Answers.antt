@@ -23,12 +23,6 @@ differ-sum-requires c = search (rules, apart_laws)
 pub overflow_add-sum : goal.overflow_add-sum
 overflow_add-sum c = search (rules, apart_laws)
 
-pub overflow_add-x : goal.overflow_add-x
-overflow_add-x c = search (rules, apart_laws)
-
-pub loop-x-smaller : goal.loop-x-smaller
-loop-x-smaller c = search (rules, apart_laws)
-
 pub loop-x-preserved : goal.loop-x-preserved
 loop-x-preserved c = search (rules, apart_laws)
 

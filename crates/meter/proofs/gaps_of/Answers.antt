@@ -8,9 +8,6 @@ eighths-top-requires c = search (rules, gaps_laws)
 pub loop-i-init : goal.loop-i-init
 loop-i-init c = search (rules, gaps_laws)
 
-pub overflow_add-i : goal.overflow_add-i
-overflow_add-i c = search (rules, gaps_laws)
-
 pub eighths-requires : goal.eighths-requires
 eighths-requires c = search (rules, gaps_laws)
 
@@ -23,11 +20,8 @@ offset_bounds-gaps-i c = search (rules, gaps_laws)
 pub bounds-gaps-i : goal.bounds-gaps-i
 bounds-gaps-i c = search (rules, gaps_laws)
 
-pub overflow_add-i-in-loop-i : goal.overflow_add-i-in-loop-i
-overflow_add-i-in-loop-i c = search (rules, gaps_laws)
-
-pub loop-i-smaller : goal.loop-i-smaller
-loop-i-smaller c = search (rules, gaps_laws)
+pub overflow_add-i : goal.overflow_add-i
+overflow_add-i c = search (rules, gaps_laws)
 
 pub loop-i-preserved : goal.loop-i-preserved
 loop-i-preserved c = search (rules, gaps_laws)
