@@ -17,12 +17,10 @@ fn first_over(words: &[u32], n: u64) -> u64
 {
     let inverses = inverses_of(words);
     let end = n + 1;
-    let mut t: u64 = 0;
-    while t < end {
+    for t in 0..end {
         if t < demand_at(words, &inverses, t) {
             return t;
         }
-        t = t + 1;
     }
     end
 }
@@ -50,10 +48,8 @@ fn put_tick(words: &[u32], t: u64, c: u64, out: &mut [u8], at: usize) -> usize
 {
     let rows = count(words);
     let mut e = at;
-    let mut i: usize = 0;
-    while i < rows {
+    for i in 0..rows {
         e = put_release(words, t, c, i, out, e);
-        i = i + 1;
     }
     e
 }
@@ -64,10 +60,8 @@ fn put_releases(words: &[u32], t: u64, out: &mut [u8], at: usize) -> usize
     ensures { Wrote 3096 (releases_text (tasks_of words.now) t) out.old out.new at result }
 {
     let mut e = at;
-    let mut c: u64 = 0;
-    while c < t {
+    for c in 0..t {
         e = put_tick(words, t, c, out, e);
-        c = c + 1;
     }
     e
 }

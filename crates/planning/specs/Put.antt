@@ -12,16 +12,6 @@ use Rattle.table.specs.declared.rows.Task.{Task}
 use Rattle.table.specs.Rows.{FitRow}
 use Rattle.planning.specs.Planning.{cost_of, cut_by, cut_of, cost_text, costs_of_row, costs_text, cut_text, cuts_text}
 
--- ---- `rounded_up`
-
-pub rounded_fits : (a b n : ℕ) → a < n → 1 ≤ a → (a - 1) / b + 1 < n
-rounded_fits a b n h l = omega (arith, div-le_self (a - 1) b)
-
-pub rounded_is : (a b : ℕ) → 1 ≤ a → 1 ≤ b → (a - 1) / b + 1 ≡ ceil_div a b
-rounded_is a b h l = sym (ceil_rest a b h l)
-
-pub ruleset rounded_laws = (rounded_fits, rounded_is)
-
 -- ---- `cost`
 
 module _ (τ : TaskSet) (i j : ℕ) where
@@ -29,9 +19,9 @@ module _ (τ : TaskSet) (i j : ℕ) where
   unfolding cost_of
   cost_own e = sym (simp (eq-eqb i j e))
 
-  pub cost_other : (k m : Task) (r : ℕ) → ¬ (i ≡ j) → FitRow τ i k → FitRow τ j m → r ≡ ceil_div k.deadline m.period → r ≡ cost_of τ i j
+  pub cost_other : (k m : Task) (r : ℕ) → ¬ (i ≡ j) → FitRow τ i k → FitRow τ j m → r ≡ div_ceil k.deadline m.period → r ≡ cost_of τ i j
   unfolding cost_of
-  cost_other k m r ne f g e = e ∙ rw (f.row.deadline, g.row.period) (sym (simp (ne_eqb i j ne)))
+  cost_other k m r ne f g e = e ∙ ceil_is k.deadline m.period (omega (arith, g.rule.cost, g.rule.fits, g.rule.period)) ∙ rw (f.row.deadline, g.row.period) (sym (simp (ne_eqb i j ne)))
 
 pub ruleset cost_cases = (cost_own, cost_other)
 
@@ -95,7 +85,10 @@ module _ (τ : TaskSet) (t excess i : ℕ) (k : Task) (f : FitRow τ i k) where
   jobs_fit n h l =
       omega (arith, f.row.deadline, f.rule.cost, f.rule.fits, div-le_self (t - k.deadline) k.period)
 
-  module _ (r : ℕ) (due : k.deadline ≤ t) (over : t + excess ≡ demand τ t) (is : r ≡ ceil_div excess ((t - k.deadline) / k.period + 1)) where
+  module _ (r : ℕ) (due : k.deadline ≤ t) (over : t + excess ≡ demand τ t) (up : r ≡ div_ceil excess ((t - k.deadline) / k.period + 1)) where
+    is : r ≡ ceil_div excess ((t - k.deadline) / k.period + 1)
+    is = up ∙ ceil_is excess ((t - k.deadline) / k.period + 1) (omega arith)
+
     -- the numbers of the definition
     fall_is : ceil_div (demand τ t - t) (jobs_by_lem (τ.D i) (τ.T i) t) ≡ r
     fall_is =
