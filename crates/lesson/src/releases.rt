@@ -38,7 +38,7 @@ fn put_release(words: &[u32], t: u64, c: u64, i: usize, out: &mut [u8], at: usiz
     if t < due {
         return at;
     }
-    put_line(out, at, c, 65, 0, i as u64, due)
+    put_line(out, at, c, b'A', 0, i as u64, due)
 }
 
 // Those of tick c.
@@ -73,7 +73,7 @@ pub fn put_answer(words: &[u32], n: u64, out: &mut [u8], at: usize) -> usize
 {
     let f = gametree::search(words, n);
     let v = gametree::shown(f);
-    let e = put_line(out, at, 0, 78, v.number, v.first, v.second);
+    let e = put_line(out, at, 0, b'N', v.number, v.first, v.second);
     match f {
         Finding::Forced => put_releases(words, first_over(words, n), out, e),
         Finding::Held => e,

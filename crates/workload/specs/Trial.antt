@@ -1,5 +1,5 @@
 -- The trial of a seed, line by line and as text, and what `load` prints (docs/WORKLOAD.md). Definitions only. Assumes nothing.
-use Rattle.std.specs.Prelude.{ℕ, zero, suc, ◌-◌, min, Bool, true, false, cond, List, [], ◌∷◌, ◌++◌, nat_le, nat_lt}
+use Rattle.std.specs.Prelude.{ℕ, zero, suc, ◌-◌, min, Bool, true, false, cond, List, [], ◌∷◌, ◌++◌, nat_le, nat_lt, Option, Some, None as Nothing}
 use Rattle.bounded.specs.Fold.{fold_to}
 use Rattle.bounded.specs.Least.{least_from}
 use Rattle.decimal.specs.declared.read.Number.{Number}
@@ -38,6 +38,10 @@ ready_row_lem s = least_from (λ i. nat_le (job_at s i).next s.clock) 0 s.count
 
 unfoldable pub ready : Session → Bool
 ready s = nat_lt (ready_row_lem s) s.count
+
+-- that row, where one may
+unfoldable pub row_ready : Session → Option ℕ
+row_ready s = cond (ready s) (Some (ready_row_lem s)) Nothing
 
 -- the ticks from the clock to the least of all rows' earliest next arrivals, which is never further ahead than the horizon
 unfoldable pub until_next_lem : Session → ℕ
