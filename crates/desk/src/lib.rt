@@ -7,7 +7,6 @@ ghost use Rattle.lines.specs.Lines.{lines_of};
 ghost use Rattle.desk.specs.Opinions.{input_limit, no_draft, answers_from, room_for, Advised};
 
 use lines::read::next_line;
-use report::least;
 use step::Progress;
 
 mod step;
@@ -22,7 +21,7 @@ pub const LONGEST: usize = 2885148;
 pub fn room_for(n: usize) -> usize
     ensures { result ≡ room_for n }
 {
-    1564 + 11 * least(n, INPUT)
+    1564 + 11 * n.min(INPUT)
 }
 
 // A text that may be read whole.
@@ -55,6 +54,6 @@ pub fn opinions(input: &[u8], out: &mut [u8]) -> usize
     if out.len() < room_for(input.len()) {
         return 0;
     }
-    let n = least(input.len(), INPUT);
+    let n = input.len().min(INPUT);
     print(&input[..n], out)
 }

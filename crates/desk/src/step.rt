@@ -26,12 +26,12 @@ fn unreadable(p: Progress, out: &mut [u8]) -> Progress
     requires { Ready p out.old }
     ensures { Unread p result out.old out.new }
 {
-    let end = put_line(out, p.end, 0, 63, 13, p.line, 0);
+    let end = put_line(out, p.end, 0, b'?', 13, p.line, 0);
     Progress {
-        count: p.count,
         spoiled: true,
         line: p.line + 1,
         end,
+        ..p
     }
 }
 
@@ -55,7 +55,7 @@ fn close(p: Progress, words: &[u32], out: &mut [u8]) -> Progress
     ensures { Closed p words.now result out.old out.new }
 {
     let e = put_answer(p, words, out);
-    let end = put_byte(out, e, 10);
+    let end = put_byte(out, e, b'\n');
     Progress {
         count: 0,
         spoiled: false,
@@ -82,9 +82,8 @@ fn add(
     put_row(words, p.count, run, period, deadline);
     Progress {
         count: p.count + 1,
-        spoiled: p.spoiled,
         line: p.line + 1,
-        end: p.end,
+        ..p
     }
 }
 
@@ -111,11 +110,8 @@ pub fn finish(p: Progress, words: &[u32], out: &mut [u8]) -> usize
     requires { Ready p out.old × (length words.now ≡ 48) }
     ensures { Finished (last_text (draft_of words.now p)) p out.old out.new result }
 {
-    if p.spoiled {
+    if p.spoiled || p.count != 0 {
         return close(p, words, out).end;
     }
-    if p.count == 0 {
-        return p.end;
-    }
-    close(p, words, out).end
+    p.end
 }

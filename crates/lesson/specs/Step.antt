@@ -116,10 +116,11 @@ module _ (p : Progress) (w before : List ℕ) (ready : Ready p before) (places :
     unfolding step_of
     ask_full r after h u = did_unread _ p r w before after (simp (le-ltb p.asked 12 h)) u
 
-    pub ask_is : (ws after : List ℕ) (end : ℕ) → p.asked < 12 → ws ≡ take (3 * p.count) w → Wrote 3182 (answer_text ws m) before after p.end end
+    pub ask_is : (ws after : List ℕ) (n end : ℕ) → p.asked < 12 → ws ≡ take (3 * p.count) w → n ≡ m → Wrote 3182 (answer_text ws n) before after p.end end
         → ItemDid (Ask m) p (record { count = p.count; asked = p.asked + 1; line = p.line + 1; end = end; over = false }) w w before after
     unfolding step_of
-    ask_is ws after end h e x =
+    ask_is ws after n end h e is y =
+        let x : Wrote 3182 (answer_text ws m) before after p.end end = rw is at y in
         subst (λ (y : Step). Did y p (record { count = p.count; asked = p.asked + 1; line = p.line + 1; end = end; over = false }) w w before after)
         (sym (ap (λ (b : Bool). cond b (answered (table_of w p) m) (unread p.line (table_of w p))) (lt-ltb p.asked 12 h))) record {
           wrote = rw e at x;

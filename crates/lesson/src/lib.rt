@@ -7,7 +7,6 @@ ghost use Rattle.lesson.specs.Item.{items_of};
 ghost use Rattle.lesson.specs.Lesson.{input_limit, longest, no_table, answers_from, Answered};
 
 use item::next_item;
-use report::least;
 use step::Progress;
 
 mod item;
@@ -54,6 +53,6 @@ pub fn contest(input: &[u8], out: &mut [u8]) -> usize
     if out.len() < LONGEST {
         return 0;
     }
-    let n = least(input.len(), INPUT);
+    let n = input.len().min(INPUT);
     print(&input[..n], out)
 }

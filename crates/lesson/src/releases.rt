@@ -17,12 +17,10 @@ fn first_over(words: &[u32], n: u64) -> u64
 {
     let inverses = inverses_of(words);
     let end = n + 1;
-    let mut t: u64 = 0;
-    while t < end {
+    for t in 0..end {
         if t < demand_at(words, &inverses, t) {
             return t;
         }
-        t = t + 1;
     }
     end
 }
@@ -40,7 +38,7 @@ fn put_release(words: &[u32], t: u64, c: u64, i: usize, out: &mut [u8], at: usiz
     if t < due {
         return at;
     }
-    put_line(out, at, c, 65, 0, i as u64, due)
+    put_line(out, at, c, b'A', 0, i as u64, due)
 }
 
 // Those of tick c.
@@ -50,10 +48,8 @@ fn put_tick(words: &[u32], t: u64, c: u64, out: &mut [u8], at: usize) -> usize
 {
     let rows = count(words);
     let mut e = at;
-    let mut i: usize = 0;
-    while i < rows {
+    for i in 0..rows {
         e = put_release(words, t, c, i, out, e);
-        i = i + 1;
     }
     e
 }
@@ -64,10 +60,8 @@ fn put_releases(words: &[u32], t: u64, out: &mut [u8], at: usize) -> usize
     ensures { Wrote 3096 (releases_text (tasks_of words.now) t) out.old out.new at result }
 {
     let mut e = at;
-    let mut c: u64 = 0;
-    while c < t {
+    for c in 0..t {
         e = put_tick(words, t, c, out, e);
-        c = c + 1;
     }
     e
 }
@@ -79,7 +73,7 @@ pub fn put_answer(words: &[u32], n: u64, out: &mut [u8], at: usize) -> usize
 {
     let f = gametree::search(words, n);
     let v = gametree::shown(f);
-    let e = put_line(out, at, 0, 78, v.number, v.first, v.second);
+    let e = put_line(out, at, 0, b'N', v.number, v.first, v.second);
     match f {
         Finding::Forced => put_releases(words, first_over(words, n), out, e),
         Finding::Held => e,

@@ -28,13 +28,12 @@ fn unreadable(p: Progress, out: &mut [u8]) -> Progress
     requires { Ready p out.old }
     ensures { Unread p result out.old out.new }
 {
-    let end = put_line(out, p.end, 0, 63, 13, p.line, 0);
+    let end = put_line(out, p.end, 0, b'?', 13, p.line, 0);
     Progress {
-        count: p.count,
-        asked: p.asked,
         line: p.line + 1,
         end,
         over: true,
+        ..p
     }
 }
 
@@ -56,10 +55,9 @@ fn add(
     put_row(words, p.count, run, period, deadline);
     Progress {
         count: p.count + 1,
-        asked: p.asked,
         line: p.line + 1,
-        end: p.end,
         over: false,
+        ..p
     }
 }
 
@@ -72,13 +70,13 @@ fn ask(p: Progress, n: u32, words: &[u32], out: &mut [u8]) -> Progress
         return unreadable(p, out);
     }
     let e = 3 * p.count;
-    let end = put_answer(&words[..e], n as u64, out, p.end);
+    let end = put_answer(&words[..e], u64::from(n), out, p.end);
     Progress {
-        count: p.count,
         asked: p.asked + 1,
         line: p.line + 1,
         end,
         over: false,
+        ..p
     }
 }
 

@@ -1,8 +1,11 @@
 -- The code that writes the lines `S` and `L`. Assumes nothing.
-use Rattle.std.specs.Prelude.{ℕ, ◌+◌, ◌-◌, ◌/◌, ◌≤◌, ◌<◌, ◌≡◌, List, ◌++◌, length}
+use Rattle.std.specs.Prelude.{ℕ, suc, ◌+◌, ◌-◌, ◌/◌, ◌≤◌, ◌<◌, ◌≡◌, List, ◌++◌, length}
 use Rattle.std.proofs.Math.Path.{sym}
 use Rattle.std.proofs.Common.{ap, ◌∙◌, div-le_self, arith, eq-eqb, ne_eqb, lt-ltb, le-ltb}
-use Rattle.bounded.specs.Quotient.{ceil_div, ceil_rest}
+use Rattle.std.specs.Int.{div_ceil}
+use Rattle.std.proofs.Math.Nat.{lt_of_mul-lt-mul_right}
+use Rattle.std.proofs.lemmas.Grind.{div_ceil_times}
+use Rattle.bounded.specs.Quotient.{ceil_div, ceil_after, ceil_least}
 use Rattle.decimal.specs.Buffer.{Wrote, wrote_none, wrote_more, wrote_within}
 use Rattle.decimal.specs.Joined.{Joined, joined_start, joined_room, joined_next, joined_all, joined_laws}
 use Rattle.edf.specs.Jobs.{jobs_by_lem, jobs_none, jobs_some}
@@ -12,15 +15,14 @@ use Rattle.table.specs.declared.rows.Task.{Task}
 use Rattle.table.specs.Rows.{FitRow}
 use Rattle.planning.specs.Planning.{cost_of, cut_by, cut_of, cost_text, costs_of_row, costs_text, cut_text, cuts_text}
 
--- ---- `rounded_up`
+-- ---- a quotient rounded up, as the library says it
 
-pub rounded_fits : (a b n : ℕ) → a < n → 1 ≤ a → (a - 1) / b + 1 < n
-rounded_fits a b n h l = omega (arith, div-le_self (a - 1) b)
-
-pub rounded_is : (a b : ℕ) → 1 ≤ a → 1 ≤ b → (a - 1) / b + 1 ≡ ceil_div a b
-rounded_is a b h l = sym (ceil_rest a b h l)
-
-pub ruleset rounded_laws = (rounded_fits, rounded_is)
+pub ceil_is : (a b : ℕ) → 1 ≤ b → div_ceil a b ≡ ceil_div a b
+ceil_is a b h =
+    let t = div_ceil_times a b h in
+    let low : ceil_div a b ≤ div_ceil a b = ceil_least a b (div_ceil a b) h t.0 in
+    let high : div_ceil a b < suc (ceil_div a b) = lt_of_mul-lt-mul_right b (omega (arith, t.1, ceil_after a b h)) in
+    omega (arith, low, high)
 
 -- ---- `cost`
 
@@ -29,9 +31,9 @@ module _ (τ : TaskSet) (i j : ℕ) where
   unfolding cost_of
   cost_own e = sym (simp (eq-eqb i j e))
 
-  pub cost_other : (k m : Task) (r : ℕ) → ¬ (i ≡ j) → FitRow τ i k → FitRow τ j m → r ≡ ceil_div k.deadline m.period → r ≡ cost_of τ i j
+  pub cost_other : (k m : Task) (r : ℕ) → ¬ (i ≡ j) → FitRow τ i k → FitRow τ j m → r ≡ div_ceil k.deadline m.period → r ≡ cost_of τ i j
   unfolding cost_of
-  cost_other k m r ne f g e = e ∙ rw (f.row.deadline, g.row.period) (sym (simp (ne_eqb i j ne)))
+  cost_other k m r ne f g e = e ∙ ceil_is k.deadline m.period (omega (arith, g.rule.cost, g.rule.fits, g.rule.apart, g.row.period)) ∙ rw (f.row.deadline, g.row.period) (sym (simp (ne_eqb i j ne)))
 
 pub ruleset cost_cases = (cost_own, cost_other)
 
@@ -95,7 +97,10 @@ module _ (τ : TaskSet) (t excess i : ℕ) (k : Task) (f : FitRow τ i k) where
   jobs_fit n h l =
       omega (arith, f.row.deadline, f.rule.cost, f.rule.fits, div-le_self (t - k.deadline) k.period)
 
-  module _ (r : ℕ) (due : k.deadline ≤ t) (over : t + excess ≡ demand τ t) (is : r ≡ ceil_div excess ((t - k.deadline) / k.period + 1)) where
+  module _ (r : ℕ) (due : k.deadline ≤ t) (over : t + excess ≡ demand τ t) (up : r ≡ div_ceil excess ((t - k.deadline) / k.period + 1)) where
+    is : r ≡ ceil_div excess ((t - k.deadline) / k.period + 1)
+    is = up ∙ ceil_is excess ((t - k.deadline) / k.period + 1) (omega arith)
+
     -- the numbers of the definition
     fall_is : ceil_div (demand τ t - t) (jobs_by_lem (τ.D i) (τ.T i) t) ≡ r
     fall_is =

@@ -3,7 +3,6 @@
 #![tactic(auto)]
 
 ghost use Rattle.std.specs.Prelude.{◌≡◌, ◌+◌, ◌≤◌, ◌<◌, length};
-ghost use Rattle.bounded.specs.Quotient.{ceil_div};
 ghost use Rattle.decimal.specs.Buffer.{Wrote};
 ghost use Rattle.edf.specs.Demand.{demand};
 ghost use Rattle.table.specs.Rows.{tasks_of, Fit};
@@ -12,14 +11,6 @@ ghost use Rattle.planning.specs.Planning.{cost_of, cut_of, cost_text, costs_of_r
 use decimal::write::put_number;
 use lines::write::{put_head, put_line};
 use table::rows::{count, fit_row};
-
-// a / b, rounded up, without a sum that could wrap.
-fn rounded_up(a: u64, b: u64) -> u64
-    requires { (1 ≤ a) × (1 ≤ b) }
-    ensures { result ≡ ceil_div a b }
-{
-    (a - 1) / b + 1
-}
 
 // How much V of row i falls by one tick more in C of row j. Internal: its callers have tested the rows.
 pub fn cost(words: &[u32], i: usize, j: usize) -> u64
@@ -31,7 +22,7 @@ pub fn cost(words: &[u32], i: usize, j: usize) -> u64
     }
     let k = fit_row(words, i);
     let other = fit_row(words, j);
-    rounded_up(k.deadline, other.period)
+    k.deadline.div_ceil(other.period)
 }
 
 // A line `S`, if C of row j can rise.
@@ -42,9 +33,9 @@ fn put_cost(words: &[u32], i: usize, j: usize, out: &mut [u8], at: usize) -> usi
     let k = fit_row(words, j);
     if k.run < k.deadline {
         let c = cost(words, i, j);
-        let e = put_head(out, at, 0, 83, 0, i as u64);
-        let f = put_number(out, e, j as u64, 9);
-        return put_number(out, f, c, 10);
+        let e = put_head(out, at, 0, b'S', 0, i as u64);
+        let f = put_number(out, e, j as u64, b'\t');
+        return put_number(out, f, c, b'\n');
     }
     at
 }
@@ -56,10 +47,8 @@ fn put_row_costs(words: &[u32], i: usize, out: &mut [u8], at: usize) -> usize
 {
     let rows = count(words);
     let mut e = at;
-    let mut j: usize = 0;
-    while j < rows {
+    for j in 0..rows {
         e = put_cost(words, i, j, out, e);
-        j = j + 1;
     }
     e
 }
@@ -71,15 +60,14 @@ pub fn put_costs(words: &[u32], out: &mut [u8], at: usize) -> usize
 {
     let rows = count(words);
     let mut e = at;
-    let mut i: usize = 0;
-    while i < rows {
+    for i in 0..rows {
         e = put_row_costs(words, i, out, e);
-        i = i + 1;
     }
     e
 }
 
 // How far C of row i must fall, alone, for the demand at t to be t or less, where it is greater by `excess`; 0 if it can't.
+// No Option: 0 is the value that is printed (docs/SPECIFICATION.md §14.3).
 fn cut(words: &[u32], t: u64, excess: u64, i: usize) -> u64
     requires { Fit (tasks_of words.now) × (i < (tasks_of words.now).rows) × (1 ≤ excess) × (t + excess ≡ demand (tasks_of words.now) t) }
     ensures { result ≡ cut_of (tasks_of words.now) t i }
@@ -89,7 +77,7 @@ fn cut(words: &[u32], t: u64, excess: u64, i: usize) -> u64
         return 0;
     }
     let jobs = (t - k.deadline) / k.period + 1;
-    let fall = rounded_up(excess, jobs);
+    let fall = excess.div_ceil(jobs);
     if fall < k.run {
         return fall;
     }
@@ -105,11 +93,9 @@ pub fn put_cuts(words: &[u32], t: u64, d: u64, out: &mut [u8], at: usize) -> usi
     let rows = count(words);
     let excess = d - t;
     let mut e = at;
-    let mut i: usize = 0;
-    while i < rows {
+    for i in 0..rows {
         let k = cut(words, t, excess, i);
-        e = put_line(out, e, 0, 76, 0, i as u64, k);
-        i = i + 1;
+        e = put_line(out, e, 0, b'L', 0, i as u64, k);
     }
     e
 }

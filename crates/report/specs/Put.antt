@@ -1,12 +1,14 @@
 -- The code that writes what is printed of an opinion. Assumes nothing.
-use Rattle.std.specs.Prelude.{ℕ, ◌+◌, ◌*◌, ◌≤◌, ◌≡◌, refl, Bool, true, false, List, [], ◌∷◌, ◌++◌, ℤ, pos, negsuc, nat_abs, length, get_or}
+use Rattle.std.specs.Prelude.{ℕ, ◌+◌, ◌*◌, ◌≤◌, ◌<◌, ◌≡◌, refl, true, false, List, [], ◌∷◌, ◌++◌, ℤ, pos, negsuc, nat_abs, length, get_or, take}
 use Rattle.std.proofs.Math.Path.{sym}
-use Rattle.std.proofs.Common.{ap, ◌∙◌, true≢false, append-nil, arith, eq-eqb, ne_eqb}
+use Rattle.std.proofs.Common.{ap, ◌∙◌, true≢false, append-nil, arith, eq-eqb, ne_eqb, length-take-le}
 use Rattle.std.proofs.lemmas.Bool.{false≢true}
-use Rattle.bounded.specs.Signed.{negative}
+use Rattle.std.proofs.lemmas.List.{get_or-take}
+use Rattle.std.specs.Int.Signed.{lt_z}
+use Rattle.bounded.specs.Signed.{negative, negative_lt}
 use Rattle.decimal.specs.Decimal.{decimal}
 use Rattle.decimal.specs.Buffer.{Wrote, wrote_more, wrote_within}
-use Rattle.decimal.specs.Joined.{Joined, joined_start, joined_all, joined_laws}
+use Rattle.decimal.specs.Joined.{Joined, joined_start, joined_room, joined_next, joined_all}
 use Rattle.lines.specs.Text.{head_text, line_text}
 use Rattle.table.specs.declared.Numbers.{Numbers}
 use Rattle.table.specs.declared.Judgement.{Judgement}
@@ -24,16 +26,16 @@ signed_plain : (v : ℤ) → negative v ≡ false → signed_text v ≡ decimal 
 signed_plain (pos n) e = refl
 signed_plain (negsuc n) e = absurd (true≢false e)
 
-module _ (v w : ℤ) (b : Bool) (n : ℕ) (d : List ℕ) (at : ℕ) (r : w ≡ v) (h : b ≡ negative w) (m : n ≡ nat_abs w) where
-  pub signed_below : (e f : List ℕ) (p q : ℕ) → at + 22 ≤ length d → b ≡ true → Wrote 1 (45 ∷ []) d e at p → Wrote 21 (decimal n ++ 10 ∷ []) e f p q
+module _ (v w : ℤ) (n : ℕ) (d : List ℕ) (at : ℕ) (r : w ≡ v) (m : n ≡ nat_abs w) where
+  pub signed_below : (e f : List ℕ) (p q : ℕ) → at + 22 ≤ length d → lt_z w (pos 0) ≡ true → Wrote 1 (45 ∷ []) d e at p → Wrote 21 (decimal n ++ 10 ∷ []) e f p q
       → Wrote 22 (signed_text v ++ 10 ∷ []) d f at q
   signed_below e f p q l t x y =
-      rw (signed_minus v (ap negative (sym r) ∙ sym h ∙ t), ← r, ← m)
+      rw (signed_minus v (ap negative (sym r) ∙ sym (negative_lt w) ∙ t), ← r, ← m)
       (wrote_more 1 21 (45 ∷ []) (decimal n ++ 10 ∷ []) d e f at p q (omega arith) x y)
 
-  pub signed_above : (e : List ℕ) (p : ℕ) → b ≡ false → Wrote 21 (decimal n ++ 10 ∷ []) d e at p → Wrote 22 (signed_text v ++ 10 ∷ []) d e at p
+  pub signed_above : (e : List ℕ) (p : ℕ) → lt_z w (pos 0) ≡ false → Wrote 21 (decimal n ++ 10 ∷ []) d e at p → Wrote 22 (signed_text v ++ 10 ∷ []) d e at p
   signed_above e p t x =
-      rw (signed_plain v (ap negative (sym r) ∙ sym h ∙ t), ← r, ← m) (wrote_within 21 22 (decimal n ++ 10 ∷ []) d e at p (omega arith) x)
+      rw (signed_plain v (ap negative (sym r) ∙ sym (negative_lt w) ∙ t), ← r, ← m) (wrote_within 21 22 (decimal n ++ 10 ∷ []) d e at p (omega arith) x)
 
 pub ruleset signed_cases = (signed_below, signed_above)
 
@@ -54,11 +56,26 @@ module _ (v : List ℤ) (rows : ℕ) (d : List ℕ) (at : ℕ) where
   pub budgets_start : rows ≤ 16 → at + 1392 ≤ length d → Joined (budget_at v) 87 rows d at 0 d at
   budgets_start few room = joined_start (budget_at v) 87 rows d at (omega arith)
 
-  pub budgets_end : (i : ℕ) (e : List ℕ) (p : ℕ) → Joined (budget_at v) 87 rows d at i e p → rows ≤ i → Wrote (87 * rows) (budgets_text v rows) d e at p
-  unfolding budgets_text
-  budgets_end i e p x h = joined_all (budget_at v) 87 rows d at i e p x h
+  -- the code goes over the first `rows` of the values
+  module _ (few : rows ≤ 16) (size : length v ≡ 16) (i : ℕ) (e : List ℕ) (p : ℕ) (x : Joined (budget_at v) 87 rows d at i e p) where
+    taken : length (take rows v) ≡ rows
+    taken = length-take-le rows v (omega arith)
 
-pub ruleset budgets_laws = (budgets_start, budgets_end, joined_laws)
+    pub budgets_room : i < length (take rows v) → p + 87 ≤ length e
+    budgets_room h = joined_room (budget_at v) 87 rows d at i e p x (omega (arith, taken))
+
+    pub budgets_next : (w : ℤ) (g : List ℕ) (q : ℕ) → i < length (take rows v) → w ≡ get_or (take rows v) i (pos 0) → Wrote 87 (budget_text i w) e g p q
+        → Joined (budget_at v) 87 rows d at (i + 1) g q
+    budgets_next w g q h is y =
+        let l : i < rows = omega (arith, taken) in
+        joined_next (budget_at v) 87 rows d at i e p x (budget_text i w) g q l y
+        (ap (budget_text i) (is ∙ get_or-take rows v i (pos 0) l))
+
+    pub budgets_end : length (take rows v) ≤ i → Wrote (87 * rows) (budgets_text v rows) d e at p
+    unfolding budgets_text
+    budgets_end h = joined_all (budget_at v) 87 rows d at i e p x (omega (arith, taken))
+
+pub ruleset budgets_laws = (budgets_start, budgets_room, budgets_next, budgets_end)
 
 -- ---- `put_opinion`
 

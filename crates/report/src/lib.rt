@@ -1,8 +1,7 @@
-// What is printed of an opinion: the line `M` and, for each row of an admitted table, a line `B` (docs/SPECIFICATION.md §8.3);
-// and how much of an input is read (§8.1, §8.6).
+// What is printed of an opinion: the line `M` and, for each row of an admitted table, a line `B` (docs/SPECIFICATION.md §8.3).
 #![tactic(auto)]
 
-ghost use Rattle.std.specs.Prelude.{◌≡◌, [], ◌∷◌, ◌++◌, ◌+◌, ◌*◌, ◌≤◌, min, length};
+ghost use Rattle.std.specs.Prelude.{◌≡◌, [], ◌∷◌, ◌++◌, ◌+◌, ◌*◌, ◌≤◌, length};
 ghost use Rattle.decimal.specs.Buffer.{Wrote};
 ghost use Rattle.table.specs.Opinion.{shown_of};
 ghost use Rattle.report.specs.Text.{signed_text, budget_text, budgets_text};
@@ -11,25 +10,17 @@ ghost use Rattle.report.specs.Put.{Reported};
 use decimal::write::{put_byte, put_number};
 use lines::write::{put_head, put_line};
 use table::Judgement;
-use table::budgets::{below_zero, magnitude};
-
-// How many of n bytes are read where `limit` at most are.
-pub fn least(n: usize, limit: usize) -> usize
-    ensures { result ≡ min n limit }
-{
-    if n < limit { n } else { limit }
-}
 
 // A number with its sign, and a newline.
 fn put_signed(out: &mut [u8], at: usize, v: i64) -> usize
     requires { at + 22 ≤ length out.old }
     ensures { Wrote 22 (signed_text v ++ 10 ∷ []) out.old out.new at result }
 {
-    if below_zero(v) {
-        let e = put_byte(out, at, 45);
-        return put_number(out, e, magnitude(v), 10);
+    if v < 0 {
+        let e = put_byte(out, at, b'-');
+        return put_number(out, e, v.unsigned_abs(), b'\n');
     }
-    put_number(out, at, magnitude(v), 10)
+    put_number(out, at, v.unsigned_abs(), b'\n')
 }
 
 // A row and its V.
@@ -37,7 +28,7 @@ fn put_budget(out: &mut [u8], at: usize, i: usize, v: i64) -> usize
     requires { at + 87 ≤ length out.old }
     ensures { Wrote 87 (budget_text i v) out.old out.new at result }
 {
-    let e = put_head(out, at, 0, 66, 0, i as u64);
+    let e = put_head(out, at, 0, b'B', 0, i as u64);
     put_signed(out, e, v)
 }
 
@@ -46,10 +37,8 @@ fn put_budgets(out: &mut [u8], at: usize, values: [i64; 16], rows: usize) -> usi
     ensures { Wrote (87 * rows) (budgets_text values rows) out.old out.new at result }
 {
     let mut e = at;
-    let mut i: usize = 0;
-    while i < rows {
-        e = put_budget(out, e, i, values[i]);
-        i = i + 1;
+    for (i, &v) in values[..rows].iter().enumerate() {
+        e = put_budget(out, e, i, v);
     }
     e
 }
@@ -61,7 +50,7 @@ pub fn put_opinion(out: &mut [u8], at: usize, j: Judgement, rows: usize) -> usiz
 {
     let verdict = j.verdict;
     let n = table::shown(verdict);
-    let e = put_line(out, at, 0, 77, n.number, n.first, n.second);
+    let e = put_line(out, at, 0, b'M', n.number, n.first, n.second);
     if n.number == 0 {
         let values = j.budgets;
         return put_budgets(out, e, values, rows);

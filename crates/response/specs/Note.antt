@@ -3,6 +3,7 @@ use Rattle.std.specs.Prelude.{ℕ, ◌+◌, ◌-◌, ◌*◌, ◌≤◌, ◌<◌
 use Rattle.std.proofs.Math.Path.{refl, sym, ap}
 use Rattle.std.proofs.Common.{◌∙◌, Fits, eq-eqb, ne_eqb}
 use Rattle.std.proofs.Math.Bool.{false}
+use Rattle.std.proofs.lemmas.List.{set-get_or}
 use native.Mathlib.Omega.{arith}
 use Rattle.std.specs.Int.{w64}
 use Rattle.bounded.specs.Tests.{gate, gate_on, gate_off}
@@ -31,16 +32,6 @@ use Rattle.response.specs.Jobs.{line_by_lem, job_text, ended_by}
 use Rattle.response.specs.Watch.{aged, tallied}
 use Rattle.response.specs.Put.{LegibleRow, Legible}
 
--- ---- `gained`
-
-pub gained_some : (b : Bool) (n : ℕ) → b ≡ true → n ≡ gate b n
-gained_some b n e = sym (gate_on b n e)
-
-pub gained_none : (b : Bool) (n : ℕ) → b ≡ false → 0 ≡ gate b n
-gained_none b n e = sym (gate_off b n e)
-
-pub ruleset gained_cases = (gained_some, gained_none)
-
 -- ---- `aged`
 
 -- n ticks of a choice in force add up to no number that wraps
@@ -64,24 +55,28 @@ module _ (s : Session) (xs : List ℕ) (n : ℕ) (g : Ageing s xs n) where
     pub aged_length : length v ≡ length xs
     aged_length = ap length e ∙ put_length (λ j. get_or xs j 0 + gate (ahead s s.chosen j) n) xs i
 
-    module _ (at : ℕ) (b : Bool) (x : ℕ) (place : at ≡ place_of s.chosen) (f : b ≡ ahead_by (job_at s i) s.chosen (job_at s at).due) (h : x ≡ gate b n) where
-      pub aged_fits : (m : ℕ) → 9223372036854775807 < m → get_or v i 0 + x < m
-      aged_fits m l = omega (arith, still, g.small i, h, gate_most b n, g.ticks)
-        where
-          gate_most : (b : Bool) (n : ℕ) → gate b n ≤ n
-          gate_most true n = omega (arith, gate_on true n refl)
-          gate_most false n = omega (arith, gate_off false n refl)
+    pub aged_fits : (m : ℕ) → 9223372036854775807 < m → get_or v i 0 + n < m
+    aged_fits m l = omega (arith, still, g.small i, g.ticks)
 
-      pub aged_next : set v i (get_or v i 0 + x) ≡ aged_to s xs n (i + 1)
-      aged_next =
+    module _ (at : ℕ) (b : Bool) (place : at ≡ place_of s.chosen) (f : b ≡ ahead_by (job_at s i) s.chosen (job_at s at).due) where
+      next : (x : ℕ) → x ≡ gate b n → set v i (get_or v i 0 + x) ≡ aged_to s xs n (i + 1)
+      next x h =
           put_next (λ j. get_or xs j 0 + gate (ahead s s.chosen j) n) xs v i (get_or v i 0 + x) e
           (rw (still, h, f, ahead_is s s.chosen (job_at s at).due (place_due s at g.bounds place) i))
+
+      pub aged_next : b ≡ true → set v i (get_or v i 0 + n) ≡ aged_to s xs n (i + 1)
+      aged_next t = next n (sym (gate_on b n t))
+
+      pub aged_stays : b ≡ false → v ≡ aged_to s xs n (i + 1)
+      aged_stays t =
+          let z : get_or v i 0 + 0 ≡ get_or v i 0 = omega arith in
+          sym (set-get_or v i 0) ∙ ap (set v i) (sym z) ∙ next 0 (sym (gate_off b n t))
 
   pub aged_done : (rows i : ℕ) (v : List ℕ) → v ≡ aged_to s xs n i → rows ≡ s.count → i ≤ rows → rows ≤ i → v ≡ aged s xs n
   unfolding aged
   aged_done rows i v e is l h = let k : i ≡ s.count = omega arith in e ∙ ap (aged_to s xs n) k
 
-pub ruleset aged_laws = (aged_start, aged_length, aged_fits, aged_next, aged_done)
+pub ruleset aged_laws = (aged_start, aged_length, aged_fits, aged_next, aged_stays, aged_done)
 
 -- ---- `tally` and `ends`; they do not look at the words of a choice
 

@@ -30,9 +30,9 @@ pub fn put_job(
     let arrival = due - k.deadline;
     let bound = arrival + spans[i] + inversions;
     let e = put_head(out, at, clock, letter, 0, i as u64);
-    let f = put_number(out, e, arrival, 9);
-    let g = put_number(out, f, bound, 9);
-    put_number(out, g, inversions, 10)
+    let f = put_number(out, e, arrival, b'\t');
+    let g = put_number(out, f, bound, b'\t');
+    put_number(out, g, inversions, b'\n')
 }
 
 // The job of row i, if it still waits.
@@ -52,7 +52,7 @@ fn put_waiting(
     if j.left == 0 {
         return at;
     }
-    put_job(table, spans, 80, s.clock, i, j.due, counts[i], out, at)
+    put_job(table, spans, b'P', s.clock, i, j.due, counts[i], out, at)
 }
 
 // All jobs that still wait.
@@ -69,10 +69,8 @@ pub fn put_pending(
 {
     let rows = count(table);
     let mut e = p.end;
-    let mut i: usize = 0;
-    while i < rows {
+    for i in 0..rows {
         e = put_waiting(table, spans, s, counts, i, out, e);
-        i = i + 1;
     }
     e
 }

@@ -11,7 +11,6 @@ ghost use Rattle.response.specs.Opening.{Refusal};
 ghost use Rattle.response.specs.Walk.{room_of};
 ghost use Rattle.response.specs.Entry.{Calls};
 
-use report::least;
 use transcript::opening::{Judged, judge, started};
 
 mod job;
@@ -29,7 +28,7 @@ pub const LONGEST: usize = 4225308;
 pub fn room_for(n: usize) -> usize
     ensures { result ≡ room_for n }
 {
-    31004 + 64 * least(n, INPUT)
+    31004 + 64 * n.min(INPUT)
 }
 
 // What is printed of a table besides the opinion, which has this number and these values.
@@ -93,6 +92,6 @@ pub fn plan(input: &[u8], out: &mut [u8]) -> usize
     if out.len() < room_for(input.len()) {
         return 0;
     }
-    let n = least(input.len(), INPUT);
+    let n = input.len().min(INPUT);
     print(&input[..n], out)
 }

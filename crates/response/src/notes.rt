@@ -1,6 +1,5 @@
 // The inversion ticks of each row's waiting job, call by call, and the line of a job that a call ends (docs/SPECIFICATION.md §14.1, §14.4).
 ghost use Rattle.std.specs.Prelude.{◌≡◌, ◌+◌, ◌≤◌, length};
-ghost use Rattle.bounded.specs.Tests.{gate};
 ghost use Rattle.decimal.specs.Buffer.{Wrote};
 ghost use Rattle.table.specs.Rows.{tasks_of};
 ghost use Rattle.response.specs.Watch.{aged};
@@ -12,7 +11,6 @@ use calls::advance::place_of;
 use lines::read::Call;
 use session::Session;
 use session::sound::is_ahead;
-use table::rows::wide;
 use transcript::step::{Play, call, passed};
 
 // What the lines so far have led to: the session, the words and the text, and of each row the inversion ticks of its waiting job.
@@ -21,13 +19,6 @@ pub struct Notes {
     pub session: Session,
     pub play: Play,
     pub counts: [u64; 16],
-}
-
-// n, where a test passes.
-fn gained(ahead: bool, n: u64) -> u64
-    ensures { result ≡ gate ahead n }
-{
-    if ahead { n } else { 0 }
 }
 
 // After n ticks of the choice in force in s.
@@ -40,11 +31,10 @@ fn aged(s: Session, counts: [u64; 16], n: u64) -> [u64; 16]
     let at = place_of(c);
     let k = s.jobs[at];
     let mut later = counts;
-    let mut i: usize = 0;
-    while i < rows {
-        let j = s.jobs[i];
-        later[i] = later[i] + gained(is_ahead(j, c, k.due), n);
-        i = i + 1;
+    for i in 0..rows {
+        if is_ahead(s.jobs[i], c, k.due) {
+            later[i] += n;
+        }
     }
     later
 }
@@ -64,7 +54,7 @@ fn tally(s: Session, c: Call, number: u64, counts: [u64; 16]) -> [u64; 16]
             later
         }
         Call::Choose => counts,
-        Call::Advance(n) => aged(s, counts, wide(n)),
+        Call::Advance(n) => aged(s, counts, u64::from(n)),
         Call::Finish => counts,
     }
 }
@@ -101,7 +91,7 @@ fn put_end(
     if over {
         let i = s.chosen as usize;
         let j = s.jobs[i];
-        return put_job(table, spans, 69, clock, i, j.due, counts[i], out, at);
+        return put_job(table, spans, b'E', clock, i, j.due, counts[i], out, at);
     }
     at
 }

@@ -14,11 +14,9 @@ pub fn responses(words: &[u32]) -> [u64; 16]
     let inverses = inverses_of(words);
     let rows = count(words);
     let mut spans = [0u64; 16];
-    let mut i: usize = 0;
-    while i < rows {
+    for i in 0..rows {
         let k = fit_row(words, i);
         spans[i] = k.run + interfering(words, &inverses, i, k.deadline);
-        i = i + 1;
     }
     spans
 }

@@ -7,7 +7,6 @@ ghost use Rattle.lines.specs.Lines.{lines_of};
 ghost use Rattle.transcript.specs.Transcript.{input_limit, printed_of, room_for, Transcribed};
 ghost use Rattle.transcript.specs.Plays.{room_of};
 
-use report::least;
 
 pub mod opening;
 mod play;
@@ -24,7 +23,7 @@ pub const LONGEST: usize = 1443356;
 pub fn room_for(n: usize) -> usize
     ensures { result ≡ room_for n }
 {
-    1564 + 22 * least(n, INPUT)
+    1564 + 22 * n.min(INPUT)
 }
 
 // A text that may be read whole.
@@ -49,6 +48,6 @@ pub fn transcribe(input: &[u8], out: &mut [u8]) -> usize
     if out.len() < room_for(input.len()) {
         return 0;
     }
-    let n = least(input.len(), INPUT);
+    let n = input.len().min(INPUT);
     print(&input[..n], out)
 }

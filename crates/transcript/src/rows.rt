@@ -4,8 +4,10 @@ ghost use Rattle.std.specs.Prelude.{◌≡◌, ◌<◌};
 ghost use Rattle.transcript.specs.Table.{Stated, with_row};
 
 use lines::read::{Line, next_line};
+use table::rows::put_row;
 
-// The rows, three numbers to each; how many there are; and the place of the line after them.
+// The rows, three numbers to each; how many there are; and the place of the line after them. An array with a length beside: no heap,
+// fixed memory.
 #[derive(Clone, Copy)]
 pub struct Rows {
     pub words: [u32; 48],
@@ -18,12 +20,9 @@ pub fn with_row(t: Rows, run: u32, period: u32, deadline: u32, at: usize) -> Row
     requires { t.count < 16 }
     ensures { result ≡ with_row t run period deadline at }
 {
-    let i = 3 * t.count;
     let mut next = t;
-    next.words[i] = run;
-    next.words[i + 1] = period;
-    next.words[i + 2] = deadline;
-    next.count = t.count + 1;
+    put_row(&mut next.words, t.count, run, period, deadline);
+    next.count += 1;
     next.at = at;
     next
 }

@@ -9,7 +9,6 @@ ghost use Rattle.transcript.specs.Play.{Room, Ready, Told, Unread, Queued, Did, 
 use lines::read::{Call, Line};
 use lines::write::put_line;
 use session::{Answer, Outcome, Session};
-use table::rows::wide;
 
 // What the lines so far have led to, besides the session.
 #[derive(Clone, Copy)]
@@ -36,10 +35,10 @@ pub fn letter(c: Call) -> u8
     ensures { result ≡ letter_of c }
 {
     match c {
-        Call::Arrive(_) => 65,
-        Call::Choose => 71,
-        Call::Advance(_) => 82,
-        Call::Finish => 70,
+        Call::Arrive(_) => b'A',
+        Call::Choose => b'G',
+        Call::Advance(_) => b'R',
+        Call::Finish => b'F',
     }
 }
 
@@ -49,9 +48,9 @@ pub fn call(s: Session, c: Call, words: &[u32]) -> Outcome
     ensures { result ≡ call_of s words.now c }
 {
     match c {
-        Call::Arrive(row) => calls::arrive::arrive_sound(s, wide(row)),
+        Call::Arrive(row) => calls::arrive::arrive_sound(s, u64::from(row)),
         Call::Choose => choice::choose_sound(s, words),
-        Call::Advance(n) => calls::advance::advance_sound(s, wide(n)),
+        Call::Advance(n) => calls::advance::advance_sound(s, u64::from(n)),
         Call::Finish => calls::finish::finish_sound(s),
     }
 }
@@ -64,10 +63,10 @@ pub fn passed(p: Play, used: u64, end: usize) -> Play
 {
     Play {
         from: p.from + (used as usize),
-        to: p.to,
         line: p.line + 1,
         end,
         over: false,
+        ..p
     }
 }
 
@@ -86,7 +85,7 @@ fn refuse(p: Play, clock: u64, out: &mut [u8]) -> Play
     requires { Room p out.old }
     ensures { Unread clock p result out.old out.new }
 {
-    let end = put_line(out, p.end, clock, 63, 13, p.line, 0);
+    let end = put_line(out, p.end, clock, b'?', 13, p.line, 0);
     let mut q = p;
     q.end = end;
     q.over = true;
@@ -119,9 +118,7 @@ pub fn aside(p: Play, clock: u64, line: Line, words: &mut [u32], out: &mut [u8])
     match line {
         Line::Word(w) => queue(p, clock, w, words, out),
         Line::Call(_) => p,
-        Line::Row { .. } => refuse(p, clock, out),
-        Line::Empty => refuse(p, clock, out),
-        Line::Unreadable => refuse(p, clock, out),
+        Line::Row { .. } | Line::Empty | Line::Unreadable => refuse(p, clock, out),
     }
 }
 

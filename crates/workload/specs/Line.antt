@@ -1,6 +1,6 @@
 -- The code that says the next line. Assumes nothing.
 -- ---- `ready_row`
-use Rattle.std.specs.Prelude.{◌≡◌, ℕ, zero, suc, ◌+◌, ◌-◌, ◌<◌, ◌≤◌, min, Bool, true, false, nat_le}
+use Rattle.std.specs.Prelude.{◌≡◌, ℕ, zero, suc, ◌+◌, ◌-◌, ◌<◌, ◌≤◌, min, Bool, true, false, nat_le, Option, Some, None}
 use Rattle.std.proofs.Math.Path.{refl, sym, ap}
 use Rattle.std.proofs.Common.{◌∙◌, add-one}
 use native.Mathlib.Omega.{arith}
@@ -14,7 +14,7 @@ use Rattle.lines.specs.declared.read.Line.TheVariants.{Word, Call}
 use Rattle.session.specs.declared.Session.{Session}
 use Rattle.session.specs.Reading.{job_at}
 use Rattle.workload.specs.Numbers.{next_of}
-use Rattle.workload.specs.Trial.{ready_row_lem, ready, until_next_lem, line_by_lem}
+use Rattle.workload.specs.Trial.{ready_row_lem, ready, row_ready, until_next_lem, line_by_lem}
 
 -- row i may arrive now
 abbrev pub may_arrive : Session → ℕ → Bool
@@ -28,13 +28,21 @@ module _ (s : Session) where
     pub ready_next : s.clock < (job_at s i).next → Passed (may_arrive s) (i + 1)
     ready_next h = passed_next (may_arrive s) i false p (sym (lt-leb _ _ h)) refl
 
-    pub ready_found : i < n → n ≡ s.count → (job_at s i).next ≤ s.clock → i ≡ ready_row_lem s
-    unfolding ready_row_lem
-    ready_found l e h = first_found (may_arrive s) i n s.count true p l e (sym (le-leb _ _ h)) refl
+    pub ready_found : i < n → n ≡ s.count → (job_at s i).next ≤ s.clock → Some i ≡ row_ready s
+    unfolding row_ready ready
+    ready_found l e h = let f = found in rw f (sym (simp (lt-ltb (ready_row_lem s) s.count (omega (arith, f)))))
+      where
+        found : i ≡ ready_row_lem s
+        unfolding ready_row_lem
+        found = first_found (may_arrive s) i n s.count true p l e (sym (le-leb _ _ h)) refl
 
-    pub ready_none : n ≤ i → n ≡ s.count → n ≡ ready_row_lem s
-    unfolding ready_row_lem
-    ready_none l e = first_none (may_arrive s) i n s.count p l e
+    pub ready_none : n ≤ i → n ≡ s.count → None ≡ row_ready s
+    unfolding row_ready ready
+    ready_none l e = let f = past in sym (simp (le-ltb (ready_row_lem s) s.count (omega (arith, f))))
+      where
+        past : n ≡ ready_row_lem s
+        unfolding ready_row_lem
+        past = first_none (may_arrive s) i n s.count p l e
 
 -- ---- `until_next`
 
@@ -66,15 +74,18 @@ pub ruleset until_laws = (until_start, until_turn, until_done)
 
 -- ---- `line_by`
 
-module _ (s : Session) (number : ℕ) (given : Bool) (row n : ℕ) (e : row ≡ ready_row_lem s) (k : n ≡ s.count) where
-  pub says_arrive : row < n → Call (Arrive row) ≡ line_by_lem s number given
-  unfolding line_by_lem ready
-  says_arrive l = rw e (sym (simp (lt-ltb (ready_row_lem s) s.count (omega arith))))
+module _ (s : Session) (number : ℕ) (given : Bool) (r : Option ℕ) (e : r ≡ row_ready s) where
+  pub says_arrive : (row : ℕ) → r ≡ Some row → Call (Arrive row) ≡ line_by_lem s number given
+  unfolding line_by_lem row_ready
+  says_arrive row f =
+      both (ready s)
+      (λ t. let g : Some row ≡ Some (ready_row_lem s) = sym f ∙ e ∙ simp t in simp t (ap (λ (x : Option ℕ). Call (Arrive (get_some x))) g))
+      (λ t. absurd (some≢none (sym f ∙ e ∙ simp t)))
 
-  module _ (l : n ≤ row) where
+  module _ (l : r ≡ None) where
     none_ready : ready s ≡ false
-    unfolding ready
-    none_ready = le-ltb (ready_row_lem s) s.count (omega arith)
+    unfolding row_ready
+    none_ready = both (ready s) (λ t. absurd (some≢none (sym (simp t) ∙ sym e ∙ l))) (λ t. t)
 
     pub says_advance : (u m : ℕ) → Within horizon (until_next_lem s) u → m ≡ min s.span u → 0 < s.span → Call (Advance m) ≡ line_by_lem s number given
     unfolding line_by_lem

@@ -37,6 +37,10 @@ ready_row_lem s = least_from (λ i. nat_le (job_at s i).next s.clock) 0 s.count
 unfoldable pub ready : Session → Bool
 ready s = nat_lt (ready_row_lem s) s.count
 
+-- that row, where one may
+unfoldable pub row_ready : Session → Option ℕ
+row_ready s = cond (ready s) (Some (ready_row_lem s)) None
+
 -- the ticks from the clock to the least of all rows' earliest next arrivals, which is never further ahead than the horizon
 unfoldable pub until_next_lem : Session → ℕ
 until_next_lem s = fold_to (λ m i. min m ((job_at s i).next - s.clock)) horizon s.count

@@ -43,9 +43,8 @@ fn called(p: Progress, c: Call, used: u64) -> Progress
 {
     Progress {
         from: p.from + (used as usize),
-        to: p.to,
-        number: p.number,
         given: still_given(c, p.given),
+        ..p
     }
 }
 
@@ -69,10 +68,7 @@ fn aside(p: Progress, line: Line, words: &mut [u32]) -> Progress
 {
     match line {
         Line::Word(w) => queued(p, w, words),
-        Line::Call(_) => p,
-        Line::Row { .. } => p,
-        Line::Empty => p,
-        Line::Unreadable => p,
+        Line::Call(_) | Line::Row { .. } | Line::Empty | Line::Unreadable => p,
     }
 }
 
@@ -91,11 +87,9 @@ pub fn put_calls(seed: u32, session: Session, rows: usize, out: &mut [u8], start
         given: false,
     };
     let mut end = start;
-    let mut left = 500 - rows;
-    while 0 < left {
+    for _ in rows..500 {
         let line = line_by(s, p.number, p.given);
         end = put_input(out, end, line);
-        left = left - 1;
         let Line::Call(c) = line else {
             p = aside(p, line, &mut words);
             continue;

@@ -39,8 +39,8 @@ pub fn put_rows(seed: u32, out: &mut [u8]) -> Rows
         at: 0,
     };
     let mut digits = seed / 8;
-    while t.count < n {
-        let r = row_by(n, t.count, digits % 8);
+    for i in 0..n {
+        let r = row_by(n, i, digits % 8);
         let line = Line::Row {
             run: r.run,
             period: r.period,
@@ -48,7 +48,7 @@ pub fn put_rows(seed: u32, out: &mut [u8]) -> Rows
         };
         let end = put_input(out, t.at, line);
         t = with_row(t, r.run, r.period, r.deadline, end);
-        digits = digits / 8;
+        digits /= 8;
     }
     t
 }

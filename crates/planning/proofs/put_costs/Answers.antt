@@ -11,12 +11,6 @@ loop-i-init c = search (rules, costs_laws)
 pub put_row_costs-e-requires : goal.put_row_costs-e-requires
 put_row_costs-e-requires c = search (rules, costs_laws)
 
-pub overflow_add-i : goal.overflow_add-i
-overflow_add-i c = search (rules, costs_laws)
-
-pub loop-i-smaller : goal.loop-i-smaller
-loop-i-smaller c = search (rules, costs_laws)
-
 pub loop-i-preserved : goal.loop-i-preserved
 loop-i-preserved c = search (rules, costs_laws)
 

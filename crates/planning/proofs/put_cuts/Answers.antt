@@ -17,12 +17,6 @@ cut-k-requires c = search (rules, cuts_laws)
 pub put_line-e-requires : goal.put_line-e-requires
 put_line-e-requires c = search (rules, cuts_laws)
 
-pub overflow_add-i : goal.overflow_add-i
-overflow_add-i c = search (rules, cuts_laws)
-
-pub loop-i-smaller : goal.loop-i-smaller
-loop-i-smaller c = search (rules, cuts_laws)
-
 pub loop-i-preserved : goal.loop-i-preserved
 loop-i-preserved c = search (rules, cuts_laws)
 

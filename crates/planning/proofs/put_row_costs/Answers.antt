@@ -11,12 +11,6 @@ loop-j-init c = search (rules, row_laws)
 pub put_cost-e-requires : goal.put_cost-e-requires
 put_cost-e-requires c = search (rules, row_laws)
 
-pub overflow_add-j : goal.overflow_add-j
-overflow_add-j c = search (rules, row_laws)
-
-pub loop-j-smaller : goal.loop-j-smaller
-loop-j-smaller c = search (rules, row_laws)
-
 pub loop-j-preserved : goal.loop-j-preserved
 loop-j-preserved c = search (rules, row_laws)
 

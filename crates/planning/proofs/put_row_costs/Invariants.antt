@@ -1,4 +1,3 @@
-use Rattle.std.proofs.Common.{◌-◌}
 use Rattle.decimal.specs.Joined.{Joined}
 use Rattle.table.specs.Rows.{tasks_of}
 use Rattle.planning.specs.Planning.{cost_text}
@@ -6,6 +5,3 @@ use Rattle.planning.proofs.put_row_costs.Given as goal
 
 abbrev pub invariant-loop-j : goal.invariant-loop-j
 invariant-loop-j l = Joined (cost_text (tasks_of l.words) l.i) 107 l.rows l.initial.out l.at l.j l.out l.e
-
-abbrev pub decreases-loop-j : goal.decreases-loop-j
-decreases-loop-j l = l.rows - l.j

@@ -5,8 +5,5 @@ use Rattle.desk.proofs.step.finish.Goals as goal
 pub returns-then-p : goal.returns-then-p
 returns-then-p c = search (rules, finish_cases)
 
-pub returns-then-p-eq0 : goal.returns-then-p-eq0
-returns-then-p-eq0 c = search (rules, finish_cases)
-
 pub returns : goal.returns
 returns c = search (rules, finish_cases)

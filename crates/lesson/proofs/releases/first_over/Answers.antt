@@ -17,12 +17,6 @@ demand_at-requires c = search (rules, over_laws)
 pub returns-then-t-demand_at : goal.returns-then-t-demand_at
 returns-then-t-demand_at c = search (rules, over_laws)
 
-pub overflow_add-t : goal.overflow_add-t
-overflow_add-t c = search (rules, over_laws)
-
-pub loop-t-smaller : goal.loop-t-smaller
-loop-t-smaller c = search (rules, over_laws)
-
 pub loop-t-preserved : goal.loop-t-preserved
 loop-t-preserved c = search (rules, over_laws)
 

@@ -8,12 +8,6 @@ loop-c-init c = search (rules, releases_laws)
 pub put_tick-e-requires : goal.put_tick-e-requires
 put_tick-e-requires c = search (rules, releases_laws)
 
-pub overflow_add-c : goal.overflow_add-c
-overflow_add-c c = search (rules, releases_laws)
-
-pub loop-c-smaller : goal.loop-c-smaller
-loop-c-smaller c = search (rules, releases_laws)
-
 pub loop-c-preserved : goal.loop-c-preserved
 loop-c-preserved c = search (rules, releases_laws)
 

@@ -1,4 +1,3 @@
-use Rattle.std.proofs.Common.{◌-◌}
 use Rattle.decimal.specs.Joined.{Joined}
 use Rattle.table.specs.Rows.{tasks_of}
 use Rattle.lesson.specs.Lesson.{tick_text}
@@ -6,6 +5,3 @@ use Rattle.lesson.proofs.releases.put_releases.Given as goal
 
 abbrev pub invariant-loop-c : goal.invariant-loop-c
 invariant-loop-c l = Joined (tick_text (tasks_of l.words) l.t) 258 l.t l.initial.out l.at l.c l.out l.e
-
-abbrev pub decreases-loop-c : goal.decreases-loop-c
-decreases-loop-c l = l.t - l.c

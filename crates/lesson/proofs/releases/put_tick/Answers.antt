@@ -11,12 +11,6 @@ loop-i-init c = search (rules, tick_laws)
 pub put_release-e-requires : goal.put_release-e-requires
 put_release-e-requires c = search (rules, tick_laws)
 
-pub overflow_add-i : goal.overflow_add-i
-overflow_add-i c = search (rules, tick_laws)
-
-pub loop-i-smaller : goal.loop-i-smaller
-loop-i-smaller c = search (rules, tick_laws)
-
 pub loop-i-preserved : goal.loop-i-preserved
 loop-i-preserved c = search (rules, tick_laws)
 

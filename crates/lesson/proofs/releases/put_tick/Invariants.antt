@@ -1,4 +1,3 @@
-use Rattle.std.proofs.Common.{◌-◌}
 use Rattle.decimal.specs.Joined.{Joined}
 use Rattle.table.specs.Rows.{tasks_of}
 use Rattle.lesson.specs.Lesson.{release_text}
@@ -6,6 +5,3 @@ use Rattle.lesson.proofs.releases.put_tick.Given as goal
 
 abbrev pub invariant-loop-i : goal.invariant-loop-i
 invariant-loop-i l = Joined (release_text (tasks_of l.words) l.t l.c) 86 l.rows l.initial.out l.at l.i l.out l.e
-
-abbrev pub decreases-loop-i : goal.decreases-loop-i
-decreases-loop-i l = l.rows - l.i

@@ -12,12 +12,6 @@ loop-i-init c = search (rules, pending_laws)
 pub put_waiting-e-requires : goal.put_waiting-e-requires
 put_waiting-e-requires c = search (rules, pending_laws)
 
-pub overflow_add-i : goal.overflow_add-i
-overflow_add-i c = search (rules, pending_laws)
-
-pub loop-i-smaller : goal.loop-i-smaller
-loop-i-smaller c = search (rules, pending_laws)
-
 pub loop-i-preserved : goal.loop-i-preserved
 loop-i-preserved c = search (rules, pending_laws)
 

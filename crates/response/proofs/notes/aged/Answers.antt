@@ -30,9 +30,6 @@ bounds-later-i c = search (rules, aged_laws)
 pub is_ahead-requires : goal.is_ahead-requires
 is_ahead-requires c = search (rules, aged_laws)
 
-pub gained-requires : goal.gained-requires
-gained-requires c = search (rules, aged_laws)
-
 pub overflow_add-later : goal.overflow_add-later
 overflow_add-later c = search (rules, aged_laws)
 
@@ -41,12 +38,6 @@ offset_bounds-later-i-in-loop-i c = search (rules, aged_laws)
 
 pub bounds-later-i-in-loop-i : goal.bounds-later-i-in-loop-i
 bounds-later-i-in-loop-i c = search (rules, aged_laws)
-
-pub overflow_add-i : goal.overflow_add-i
-overflow_add-i c = search (rules, aged_laws)
-
-pub loop-i-smaller : goal.loop-i-smaller
-loop-i-smaller c = search (rules, aged_laws)
 
 pub loop-i-preserved : goal.loop-i-preserved
 loop-i-preserved c = search (rules, aged_laws)

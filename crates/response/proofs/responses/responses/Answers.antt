@@ -27,12 +27,6 @@ offset_bounds-spans-i c = search (rules, responses_laws)
 pub bounds-spans-i : goal.bounds-spans-i
 bounds-spans-i c = search (rules, responses_laws)
 
-pub overflow_add-i : goal.overflow_add-i
-overflow_add-i c = search (rules, responses_laws)
-
-pub loop-i-smaller : goal.loop-i-smaller
-loop-i-smaller c = search (rules, responses_laws)
-
 pub loop-i-preserved : goal.loop-i-preserved
 loop-i-preserved c = search (rules, responses_laws)
 

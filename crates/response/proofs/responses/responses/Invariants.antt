@@ -1,10 +1,7 @@
-use Rattle.std.proofs.Common.{◌-◌, ◌≤◌}
+use Rattle.std.proofs.Common.{◌≤◌}
 use Rattle.table.specs.Rows.{tasks_of}
 use Rattle.response.specs.Responses.{ResponsesTo}
 use Rattle.response.proofs.responses.responses.Given as goal
 
 abbrev pub invariant-loop-i : goal.invariant-loop-i
-invariant-loop-i l = (l.i ≤ l.rows) × ResponsesTo (tasks_of l.words) l.i l.spans
-
-abbrev pub decreases-loop-i : goal.decreases-loop-i
-decreases-loop-i l = l.rows - l.i
+invariant-loop-i l = ResponsesTo (tasks_of l.words) l.i l.spans

@@ -1,4 +1,5 @@
 use borrow.Author.Rules.{rules}
+use Rattle.transcript.specs.Step.{step_of}
 use Rattle.transcript.specs.Play.{aside_laws}
 use Rattle.transcript.proofs.step.aside.Goals as goal
 
@@ -12,10 +13,5 @@ pub returns-in-Call : goal.returns-in-Call
 returns-in-Call c = search (rules, aside_laws)
 
 pub returns-in-Row : goal.returns-in-Row
+unfolding step_of
 returns-in-Row c = search (rules, aside_laws)
-
-pub returns-in-Empty : goal.returns-in-Empty
-returns-in-Empty c = search (rules, aside_laws)
-
-pub returns-in-Unreadable : goal.returns-in-Unreadable
-returns-in-Unreadable c = search (rules, aside_laws)

@@ -14,12 +14,6 @@ bounds-s-i c = search (rules, ready_laws)
 pub returns-then-j-clock : goal.returns-then-j-clock
 returns-then-j-clock c = search (rules, ready_laws)
 
-pub overflow_add-i : goal.overflow_add-i
-overflow_add-i c = search (rules, ready_laws)
-
-pub loop-i-smaller : goal.loop-i-smaller
-loop-i-smaller c = search (rules, ready_laws)
-
 pub loop-i-preserved : goal.loop-i-preserved
 loop-i-preserved c = search (rules, ready_laws)
 

@@ -11,18 +11,6 @@ offset_bounds-s-i c = search (rules, until_laws)
 pub bounds-s-i : goal.bounds-s-i
 bounds-s-i c = search (rules, until_laws)
 
-pub less-requires : goal.less-requires
-less-requires c = search (rules, until_laws)
-
-pub lesser-m-requires : goal.lesser-m-requires
-lesser-m-requires c = search (rules, until_laws)
-
-pub overflow_add-i : goal.overflow_add-i
-overflow_add-i c = search (rules, until_laws)
-
-pub loop-i-smaller : goal.loop-i-smaller
-loop-i-smaller c = search (rules, until_laws)
-
 pub loop-i-preserved : goal.loop-i-preserved
 loop-i-preserved c = search (rules, until_laws)
 

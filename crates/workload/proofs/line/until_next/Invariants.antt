@@ -3,7 +3,4 @@ use Rattle.workload.specs.Line.{until_to}
 use Rattle.workload.proofs.line.until_next.Given as goal
 
 abbrev pub invariant-loop-i : goal.invariant-loop-i
-invariant-loop-i l = (l.i ≤ l.n) × (l.m ≡ until_to l.s l.i)
-
-abbrev pub decreases-loop-i : goal.decreases-loop-i
-decreases-loop-i l = l.n - l.i
+invariant-loop-i l = (l.m ≡ until_to l.s l.i)
