@@ -14,5 +14,5 @@ returns-then-found-ne0 c = search (rules, kind_fit_cases)
 pub returns-then-b-2 : goal.returns-then-b-2
 returns-then-b-2 c = search (rules, kind_fit_cases)
 
-pub returns : goal.returns
-returns c = search (rules, kind_fit_cases)
+pub returns-else-b-2 : goal.returns-else-b-2
+returns-else-b-2 c = search (rules, kind_fit_cases)
