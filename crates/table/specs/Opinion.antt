@@ -1,6 +1,6 @@
 -- What `opinion` promises, and the cases of its code. Assumes nothing.
 use Prim.Native.Nat.{ℕ, ◌%◌, ◌≤◌, ◌<◌, min}
-use Rattle.std.specs.Prelude.{◌≡◌, refl, Bool, true, false, not, List, ltb, eqb, length, Result, Ok, Err}
+use Rattle.std.specs.Prelude.{◌≡◌, refl, Bool, true, false, not, List, ltb, eqb, length, Result, Ok, Err, is_err}
 use Rattle.std.proofs.Math.Path.{sym, ap}
 use Rattle.std.proofs.Common.{◌∙◌, true≢false, arith}
 use Rattle.std.proofs.Math.Bool.{cond}
@@ -59,6 +59,45 @@ shows_of v n s = rw (s.number, s.first, s.second) refl
 pub shows_opinion : (l : List ℕ) (v : Result Judgement Refusal) (n : Numbers) → shown_of v ≡ opinion_of l → Shows v n
     → record { number = n.number; first = n.first; second = n.second; budgets = (shown_of v).budgets } ≡ opinion_of l
 shows_opinion l v n h s = sym (shows_of v n s) ∙ h
+
+-- two opinions with the same number, values and budgets are the same
+kind_in_lem : ℕ → Kind
+kind_in_lem k = cond (eqb k 1) Loose (cond (eqb k 2) Tight Mixed)
+
+opinion_in : Opinion → Result Judgement Refusal
+opinion_in o =
+    cond (eqb o.number 0) (Ok (record { kind = kind_in_lem o.first; rows = o.second; budgets = o.budgets }))
+    (Err (cond (eqb o.number 1) (Length o.first) (cond (eqb o.number 2) (Row o.first) (cond (eqb o.number 3) (Overload o.first o.second) Unsettled))))
+
+opinion_in_lem : (v : Result Judgement Refusal) → opinion_in (shown_of v) ≡ v
+unfolding opinion_in kind_in_lem
+opinion_in_lem (Ok j) = by j j.kind refl
+  where
+    by : (j : Judgement) (k : Kind) → j.kind ≡ k → opinion_in (shown_of (Ok j)) ≡ Ok j
+    by j Loose e = rw e refl
+    by j Tight e = rw e refl
+    by j Mixed e = rw e refl
+opinion_in_lem (Err (Length n)) = refl
+opinion_in_lem (Err (Row i)) = refl
+opinion_in_lem (Err (Overload t d)) = refl
+opinion_in_lem (Err Unsettled) = refl
+
+pub shown_one : (v w : Result Judgement Refusal) → shown_of v ≡ shown_of w → v ≡ w
+shown_one v w e = sym (opinion_in_lem v) ∙ ap opinion_in e ∙ opinion_in_lem w
+
+-- a refusal has a number above 0
+pub refusal_some : (r : Refusal) → (shown_of (Err r)).number ≡ 0 → ⊥
+refusal_some (Length n) z = omega arith
+refusal_some (Row i) z = omega arith
+refusal_some (Overload t d) z = omega arith
+refusal_some Unsettled z = omega arith
+
+pub refused_number : (v : Result Judgement Refusal) → is_err v ≡ not (eqb (shown_of v).number 0)
+refused_number (Ok j) = refl
+refused_number (Err (Length n)) = refl
+refused_number (Err (Row i)) = refl
+refused_number (Err (Overload t d)) = refl
+refused_number (Err Unsettled) = refl
 
 -- an opinion says what it is
 pub says_of : (v : Result Judgement Refusal) (o : Opinion) → shown_of v ≡ o → Says v o
