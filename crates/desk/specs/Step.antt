@@ -1,5 +1,5 @@
 -- What the code of one line keeps, and its cases. Assumes nothing.
-use Rattle.std.specs.Prelude.{ℕ, ◌+◌, ◌*◌, ◌≤◌, ◌<◌, ◌≡◌, Bool, false, List, [], ◌∷◌, take}
+use Rattle.std.specs.Prelude.{ℕ, ◌+◌, ◌*◌, ◌≤◌, ◌<◌, ◌≡◌, Bool, false, Result, List, [], ◌∷◌, take}
 use Rattle.std.proofs.Math.Path.{refl, ap, subst}
 use Rattle.std.proofs.Common.{sym, ◌∙◌, arith, length-append, length-take-le}
 use Rattle.std.proofs.Math.Bool.{true, cond, or-true}
@@ -12,6 +12,7 @@ use Rattle.lines.specs.declared.read.Line.{Line}
 use Rattle.lines.specs.declared.read.Line.TheVariants.{Row, Word, Call, Empty, Unreadable}
 use Rattle.lines.specs.Text.{line_text}
 use Rattle.table.specs.declared.Judgement.{Judgement}
+use Rattle.table.specs.declared.Refusal.{Refusal}
 use Rattle.table.specs.Rows.{tasks_of}
 use Rattle.table.specs.Words.{words_with, words_places, words_more}
 use Rattle.table.specs.Verdict.{Opinion, opinion_of}
@@ -106,7 +107,7 @@ module _ (p : Progress) (w before : List ℕ) (ready : Ready p before) (places :
   pub answer_none : p.spoiled ≡ true → Answered p w before before p.end
   answer_none e = rw e record { wrote = wrote_none 1478 before p.end; short = omega arith }
 
-  module _ (ws : List ℕ) (f : ws ≡ take (3 * p.count) w) (j : Judgement) (op : shown_of j ≡ opinion_of ws) where
+  module _ (ws : List ℕ) (f : ws ≡ take (3 * p.count) w) (j : Result Judgement Refusal) (op : shown_of j ≡ opinion_of ws) where
     pub answer_rows : (shown_of j).number ≡ 0 → (shown_of j).second ≡ p.count
     unfolding tasks_of
     answer_rows z =

@@ -45,8 +45,8 @@ fn put_answer(p: Progress, words: &[u32], out: &mut [u8]) -> usize
     }
     let count = p.count;
     let e = 3 * count;
-    let judgement = table::opinion(&words[..e]);
-    report::put_opinion(out, p.end, judgement, count)
+    let opinion = table::opinion(&words[..e]);
+    report::put_opinion(out, p.end, opinion, count)
 }
 
 // The table at hand ends.

@@ -2,8 +2,8 @@
 -- Tight.antt and Mixed.antt, and in proofs/, where `no_job_late` stands. Assumes nothing.
 use Rattle.std.specs.Prelude.{refl, List, [], ◌∷◌}
 use Rattle.std.proofs.Common.{sym, ap, ◌∙◌}
-use Rattle.table.specs.Verdict.{Opinion, opinion_of}
-use Rattle.table.specs.Opinion.{says_of, says_one}
+use Rattle.table.specs.Verdict.{Opinion}
+use Rattle.table.specs.Opinion.{shown_one}
 use Rattle.table.proofs.TheoremsLaws as tables
 use Rattle.session.specs.Calls.{shown, arrive_of}
 use Rattle.session.specs.Batch.{after_all, answered_all}
@@ -14,7 +14,7 @@ use Rattle.guarantee.specs.Statement.{session_after, events_of, StartIsOpinion, 
 -- A START SAYS WHAT THE OPINION SAYS
 pub start_is_opinion : StartIsOpinion
 start_is_opinion s₀ l j r e h = record {
-  verdict = says_one r.verdict j.verdict (opinion_of l) h.verdict (says_of j (opinion_of l) e);
+  opinion = shown_one r.opinion j (h.opinion ∙ sym e);
   fresh = λ z. h.session ∙ start_fresh s₀ l (sym (ap (λ (o : Opinion). o.number) e) ∙ z) ∙ ap (λ (o : Opinion). fresh_of l o.first) (sym e);
   same = λ ne. h.session ∙ start_same s₀ l (λ z. ne (ap (λ (o : Opinion). o.number) e ∙ z));
 }

@@ -2,12 +2,13 @@
 -- budget that a job arrives with (§5.3), of the order of jobs and of a choice in a tight session (§5.4), of what a finish gives
 -- (§5.6), and of a batch of arrivals (§5.9).
 -- Definitions only. Assumes nothing.
-use Rattle.std.specs.Prelude.{ℕ, ◌+◌, ◌-◌, ◌*◌, max, ◌≤◌, ◌<◌, ◌≡◌, true, false, List, [], ◌∷◌, ◌++◌, map, ◌⊎◌, ltb, eqb, ℤ, pos, length}
+use Rattle.std.specs.Prelude.{ℕ, ◌+◌, ◌-◌, ◌*◌, max, ◌≤◌, ◌<◌, ◌≡◌, true, false, Result, List, [], ◌∷◌, ◌++◌, map, ◌⊎◌, ltb, eqb, ℤ, pos, length}
 use Rattle.edf.specs.Demand.{TaskSet}
 use Rattle.edf.specs.State.{to_come}
 use Rattle.table.specs.Rows.{tasks_of}
 use Rattle.table.specs.Budgets.{budget_of, brittle}
 use Rattle.table.specs.declared.Judgement.{Judgement}
+use Rattle.table.specs.declared.Refusal.{Refusal}
 use Rattle.table.specs.Verdict.{opinion_of}
 use Rattle.table.specs.Opinion.{shown_of}
 pub use Rattle.table.specs.Statement.{OverloadDeserved}
@@ -26,14 +27,14 @@ use Rattle.session.specs.Start.{fresh_of, start_of, session_of, Starts}
 use Rattle.guarantee.specs.Ledger.{Call, arrive, choose, advance, finish, Event, End, none, at, Entry, Ledger, ledger_of}
 
 -- A START SAYS WHAT THE OPINION SAYS: j is the opinion on the table l, and r what a start of it gives where s₀ was there before.
--- The verdict is the same. An admitted table gives the fresh session of the opinion's kind; a refused one leaves s₀.
-pub record SaysOpinion (s₀ : Session) (l : List ℕ) (j : Judgement) (r : Started) : Type 0 where
-  pub verdict : r.verdict ≡ j.verdict
+-- The opinion is the same. An admitted table gives the fresh session of the opinion's kind; a refused one leaves s₀.
+pub record SaysOpinion (s₀ : Session) (l : List ℕ) (j : Result Judgement Refusal) (r : Started) : Type 0 where
+  pub opinion : r.opinion ≡ j
   pub fresh : (shown_of j).number ≡ 0 → r.session ≡ fresh_of l (shown_of j).first
   pub same : ((shown_of j).number ≡ 0 → ⊥) → r.session ≡ s₀
 
 abbrev pub StartIsOpinion : Type 0
-StartIsOpinion = (s₀ : Session) (l : List ℕ) (j : Judgement) (r : Started) → shown_of j ≡ opinion_of l → Starts s₀ l r → SaysOpinion s₀ l j r
+StartIsOpinion = (s₀ : Session) (l : List ℕ) (j : Result Judgement Refusal) (r : Started) → shown_of j ≡ opinion_of l → Starts s₀ l r → SaysOpinion s₀ l j r
 
 -- what a call does to a session, by the definitions that the contracts of the four calls cite
 abbrev pub outcome_of : Session → Call → Outcome

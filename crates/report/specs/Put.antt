@@ -1,5 +1,5 @@
 -- The code that writes what is printed of an opinion. Assumes nothing.
-use Rattle.std.specs.Prelude.{ℕ, ◌+◌, ◌*◌, ◌≤◌, ◌<◌, ◌≡◌, refl, true, false, List, [], ◌∷◌, ◌++◌, ℤ, pos, negsuc, nat_abs, length, get_or, take}
+use Rattle.std.specs.Prelude.{ℕ, ◌+◌, ◌*◌, ◌≤◌, ◌<◌, ◌≡◌, refl, true, false, Result, Ok, Err, List, [], ◌∷◌, ◌++◌, ℤ, pos, negsuc, nat_abs, length, get_or, take}
 use Rattle.std.proofs.Math.Path.{sym}
 use Rattle.std.proofs.Common.{ap, ◌∙◌, true≢false, append-nil, arith, eq-eqb, ne_eqb, length-take-le}
 use Rattle.std.proofs.lemmas.Bool.{false≢true}
@@ -12,8 +12,9 @@ use Rattle.decimal.specs.Joined.{Joined, joined_start, joined_room, joined_next,
 use Rattle.lines.specs.Text.{head_text, line_text}
 use Rattle.table.specs.declared.Numbers.{Numbers}
 use Rattle.table.specs.declared.Judgement.{Judgement}
+use Rattle.table.specs.declared.Refusal.{Refusal}
 use Rattle.table.specs.Verdict.{Opinion}
-use Rattle.table.specs.Opinion.{shown_of, Shows, shows_of}
+use Rattle.table.specs.Opinion.{shown_of, Shows, shows_of, refusal_some}
 use Rattle.report.specs.Text.{signed_text, budget_text, budgets_text, opinion_text}
 
 -- ---- `put_signed`; w is what the machine reads back of v
@@ -85,26 +86,29 @@ pub record Reported (o : Opinion) (rows : ℕ) (before after : List ℕ) (at r :
   pub first : length (line_text 0 77 o.number o.first o.second) ≤ 86
   pub rest : o.number ≡ 0 → length (budgets_text o.budgets rows) ≤ 87 * rows
 
-module _ (a : Judgement) (n : Numbers) (d e : List ℕ) (at p : ℕ) (g : Shows a.verdict n)
+module _ (a : Result Judgement Refusal) (n : Numbers) (d e : List ℕ) (at p : ℕ) (g : Shows a n)
     (x : Wrote 86 (line_text 0 77 n.number n.first n.second) d e at p) where
-  pub opinion_yes : (rows : ℕ) (f : List ℕ) (q : ℕ) → rows ≤ 16 → at + 1478 ≤ length d → n.number ≡ 0 → ((shown_of a).number ≡ 0 → (shown_of a).second ≡ rows)
-      → Wrote (87 * rows) (budgets_text a.budgets rows) e f p q → Reported (shown_of a) rows d f at q
+  pub opinion_yes : (rows : ℕ) (f : List ℕ) (q : ℕ) (j : Judgement) → a ≡ Ok j → rows ≤ 16 → at + 1478 ≤ length d
+      → ((shown_of a).number ≡ 0 → (shown_of a).second ≡ rows) → Wrote (87 * rows) (budgets_text j.budgets rows) e f p q → Reported (shown_of a) rows d f at q
   unfolding opinion_text
-  opinion_yes rows f q few l z k y =
-      let same = shows_of a n g in
-      let second : n.second ≡ rows = sym (ap (λ (s : Opinion). s.second) same) ∙ k (ap (λ (s : Opinion). s.number) same ∙ z) in
-      rw same record {
+  opinion_yes rows f q j is few l k y =
+      let z : (shown_of a).number ≡ 0 = ap (λ (v : Result Judgement Refusal). (shown_of v).number) is in
+      let second : n.second ≡ rows = g.second ∙ k z in
+      let values : (shown_of a).budgets ≡ j.budgets = ap (λ (v : Result Judgement Refusal). (shown_of v).budgets) is in
+      rw (shows_of a n g) record {
         wrote =
-            simp (eq-eqb n.number 0 z)
+            simp (eq-eqb n.number 0 (g.number ∙ z))
             (wrote_within (86 + 87 * rows) 1478 _ d f at q (omega arith)
-            (wrote_more 86 (87 * rows) _ _ d e f at p q (omega (arith, x.short)) x (rw second y)));
+            (wrote_more 86 (87 * rows) _ _ d e f at p q (omega (arith, x.short)) x (rw (second, values) y)));
         first = x.short;
-        rest = λ _. y.short;
+        rest = λ _. rw values y.short;
       }
 
-  pub opinion_not : (rows : ℕ) → (n.number ≡ 0 → ⊥) → Reported (shown_of a) rows d e at p
+  pub opinion_not : (rows : ℕ) (r : Refusal) → a ≡ Err r → Reported (shown_of a) rows d e at p
   unfolding opinion_text
-  opinion_not rows ne =
+  opinion_not rows r is =
+      let ne : n.number ≡ 0 → ⊥ =
+          λ z. refusal_some r (sym (ap (λ (v : Result Judgement Refusal). (shown_of v).number) is) ∙ sym g.number ∙ z) in
       rw (shows_of a n g) record {
         wrote = simp (ne_eqb n.number 0 ne, append-nil) (wrote_within 86 1478 _ d e at p (omega arith) x);
         first = x.short;

@@ -9,7 +9,7 @@ ghost use Rattle.report.specs.Put.{Reported};
 
 use decimal::write::{put_byte, put_number};
 use lines::write::{put_head, put_line};
-use table::Judgement;
+use table::{Judgement, Refusal};
 
 // A number with its sign, and a newline.
 fn put_signed(out: &mut [u8], at: usize, v: i64) -> usize
@@ -44,16 +44,19 @@ fn put_budgets(out: &mut [u8], at: usize, values: [i64; 16], rows: usize) -> usi
 }
 
 // `rows` is the number of rows of an admitted table. Internal: the caller has seen to the room for the longest.
-pub fn put_opinion(out: &mut [u8], at: usize, j: Judgement, rows: usize) -> usize
-    requires { (rows ≤ 16) × (at + 1478 ≤ length out.old) × ((shown_of j).number ≡ 0 → (shown_of j).second ≡ rows) }
-    ensures { Reported (shown_of j) rows out.old out.new at result }
+pub fn put_opinion(
+    out: &mut [u8],
+    at: usize,
+    opinion: Result<Judgement, Refusal>,
+    rows: usize,
+) -> usize
+    requires { (rows ≤ 16) × (at + 1478 ≤ length out.old) × ((shown_of opinion).number ≡ 0 → (shown_of opinion).second ≡ rows) }
+    ensures { Reported (shown_of opinion) rows out.old out.new at result }
 {
-    let verdict = j.verdict;
-    let n = table::shown(verdict);
+    let n = table::shown(opinion);
     let e = put_line(out, at, 0, b'M', n.number, n.first, n.second);
-    if n.number == 0 {
-        let values = j.budgets;
-        return put_budgets(out, e, values, rows);
+    match opinion {
+        Ok(j) => put_budgets(out, e, j.budgets, rows),
+        Err(_) => e,
     }
-    e
 }

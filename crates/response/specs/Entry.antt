@@ -1,14 +1,13 @@
 -- The whole text, and the entry point. Assumes nothing.
-use Rattle.std.specs.Prelude.{ℕ, ◌+◌, ◌-◌, ◌≤◌, min, ◌≡◌, false, not, List, [], ◌++◌, eqb, length, take}
-use Rattle.std.proofs.Common.{sym, ap, ◌∙◌, append-nil, arith, eq-eqb, ne_eqb}
+use Rattle.std.specs.Prelude.{ℕ, ◌+◌, ◌-◌, ◌≤◌, min, ◌≡◌, Bool, true, false, not, is_err, List, [], ◌++◌, eqb, length, take}
+use Rattle.std.proofs.Common.{sym, ap, ◌∙◌, append-nil, arith, eq-eqb, eqb-true}
 use Rattle.bounded.specs.Tests.{both}
 use Rattle.decimal.specs.Buffer.{Wrote, wrote_length, wrote_more, wrote_within}
 use Rattle.lines.specs.declared.read.Line.{Line}
 use Rattle.lines.specs.Lines.{lines_of}
-use Rattle.table.specs.declared.Numbers.{Numbers}
 use Rattle.table.specs.Rows.{tasks_of}
 use Rattle.table.specs.Verdict.{opinion_of}
-use Rattle.table.specs.Opinion.{Shows, Says}
+use Rattle.table.specs.Opinion.{Says, refused_number}
 use Rattle.report.specs.Text.{opinion_text}
 use Rattle.report.specs.Whole.{filled_short, read_limit, room_from_kept, filled_from}
 use Rattle.session.specs.declared.Session.{Session}
@@ -21,7 +20,6 @@ use Rattle.transcript.specs.Opening.{opinion_in}
 use Rattle.transcript.specs.Opens.{calls_by, table_in, Startable, started_by, Judges, Opens, judged_startable, started_opens, opens_admitted}
 use Rattle.response.specs.Jobs.{items_text}
 use Rattle.response.specs.Plan.{besides_text, items_from, items_of, printed_of, planned_of, room_for, Planned}
-use Rattle.response.specs.Opening.{Refusal, refusal_of}
 use Rattle.response.specs.Walk.{room_of, owed_first, Begun}
 
 -- ---- the table, then the calls
@@ -34,7 +32,7 @@ text_by l s q n x = items_text (items_from (tasks_of l) empty [] s q n x)
 pub record Calls (text : List ℕ) (j : Judged) (out : List ℕ) : Type 0 where
   pub limit : length text ≤ input_limit
   pub stated : Stated text j.rows
-  pub says : Says j.verdict (opinion_in text)
+  pub says : Says j.opinion (opinion_in text)
   pub admitted : (opinion_in text).number ≡ 0
   pub end : j.end ≤ 28870
   pub room : room_of text ≤ length out
@@ -84,15 +82,18 @@ pub ruleset calls_laws = (calls_startable, calls_begun, calls_done)
 -- ---- `print`
 
 module _ (text before middle : List ℕ) (j : Judged) (g : Judges text j before middle) (room : room_of text ≤ length before)
-    (ws : List ℕ) (e : ws ≡ table_in j.rows) (n : Numbers) (sh : Shows j.verdict n) where
+    (ws : List ℕ) (e : ws ≡ table_in j.rows) where
   table_is : rows_in row_limit (lines_of text) ≡ ws
   table_is = g.stated.rows ∙ sym e
 
-  number_is : n.number ≡ (opinion_in text).number
-  number_is = sh.number ∙ g.says.number
+  pub print_says : Says j.opinion (opinion_of ws)
+  print_says = rw table_is at g.says
 
-  pub print_refusal : Refusal ws n.number n.first n.second
-  print_refusal = refusal_of ws j.verdict n (rw table_is at g.says) sh
+  refused_is : {b c : Bool} → b ≡ is_err j.opinion → b ≡ c → eqb (opinion_in text).number 0 ≡ not c
+  refused_is {b} {c} e f = eqb_is (opinion_in text).number c (sym f ∙ e ∙ refused_number j.opinion ∙ ap (λ n. not (eqb n 0)) g.says.number)
+    where
+      eqb_is : (n : ℕ) (c : Bool) → c ≡ not (eqb n 0) → eqb n 0 ≡ not c
+      eqb_is n c h = both (eqb n 0) (λ t. t ∙ ap not (sym (h ∙ ap not t))) (λ t. t ∙ ap not (sym (h ∙ ap not t)))
 
   pub print_room : j.end + 27392 ≤ length middle
   print_room =
@@ -102,17 +103,18 @@ module _ (text before middle : List ℕ) (j : Judged) (g : Judges text j before 
     front : Wrote 28870 (opinion_text (opinion_in text) ++ besides_text (rows_in row_limit (lines_of text))) before later 0 end
     front = wrote_more 1478 27392 _ _ before middle later 0 j.end end (omega (arith, g.wrote.short)) g.wrote (rw table_is w)
 
-    pub print_refused : (n.number ≡ 0 → ⊥) → Wrote (room_of text) (printed_of (lines_of text)) before later 0 end
+    pub print_refused : (b : Bool) → b ≡ is_err j.opinion → b ≡ true → Wrote (room_of text) (printed_of (lines_of text)) before later 0 end
     unfolding printed_of items_of items_text
-    print_refused ne =
-        simp (ne_eqb (opinion_in text).number 0 (λ z. ne (number_is ∙ z)), append-nil) (wrote_within 28870 (room_of text) _ before later 0 end (omega arith) front)
+    print_refused b e t =
+        simp (refused_is e t, append-nil) (wrote_within 28870 (room_of text) _ before later 0 end (omega arith) front)
 
-    pub print_calls : length text ≤ input_limit → n.number ≡ 0 → Calls text (record { rows = j.rows; verdict = j.verdict; end = end }) later
-    print_calls limit z = record {
+    pub print_calls : length text ≤ input_limit → (b : Bool) → b ≡ is_err j.opinion → b ≡ false
+        → Calls text (record { rows = j.rows; opinion = j.opinion; end = end }) later
+    print_calls limit b e t = record {
       limit = limit;
       stated = g.stated;
       says = g.says;
-      admitted = sym number_is ∙ z;
+      admitted = eqb-true (opinion_in text).number 0 (refused_is e t);
       end = omega (arith, front.place, front.short);
       room = omega (arith, wrote_length 28870 _ before later 0 end (omega (arith, front.short)) front);
     }
@@ -124,7 +126,7 @@ module _ (text before middle : List ℕ) (j : Judged) (g : Judges text j before 
         let y = wrote_more 28870 (room_of text - end) _ _ before later after 0 end r (omega (arith, front.short)) front v in
         record { buffer = y.buffer; place = y.place; short = omega (arith, y.place, v.place, v.short, front.place, front.short) }
 
-pub ruleset print_laws = (print_refusal, print_room, print_refused, print_calls, print_done)
+pub ruleset print_laws = (print_says, print_room, print_refused, print_calls, print_done)
 
 -- ---- the entry point
 

@@ -4,13 +4,15 @@
 ghost use Rattle.std.specs.Prelude.{◌≡◌, ◌+◌, ◌-◌, ◌≤◌, length};
 ghost use Rattle.decimal.specs.Buffer.{Wrote};
 ghost use Rattle.lines.specs.Lines.{lines_of};
+ghost use Rattle.table.specs.Verdict.{opinion_of};
+ghost use Rattle.table.specs.Opinion.{Says};
 ghost use Rattle.transcript.specs.Transcript.{input_limit};
 ghost use Rattle.response.specs.Jobs.{items_text};
 ghost use Rattle.response.specs.Plan.{besides_text, items_of, printed_of, room_for, Planned};
-ghost use Rattle.response.specs.Opening.{Refusal};
 ghost use Rattle.response.specs.Walk.{room_of};
 ghost use Rattle.response.specs.Entry.{Calls};
 
+use table::{Judgement, Refusal};
 use transcript::opening::{Judged, judge, started};
 
 mod job;
@@ -31,25 +33,21 @@ pub fn room_for(n: usize) -> usize
     31004 + 64 * n.min(INPUT)
 }
 
-// What is printed of a table besides the opinion, which has this number and these values.
+// What is printed of a table besides the opinion on it.
 fn put_besides(
     words: &[u32],
-    number: u64,
-    first: u64,
-    second: u64,
+    opinion: Result<Judgement, Refusal>,
     out: &mut [u8],
     at: usize,
 ) -> usize
-    requires { Refusal words.now number first second × (at + 27392 ≤ length out.old) }
+    requires { Says opinion (opinion_of words.now) × (at + 27392 ≤ length out.old) }
     ensures { Wrote 27392 (besides_text words.now) out.old out.new at result }
 {
-    if number == 0 {
-        return planning::put_costs(words, out, at);
+    match opinion {
+        Ok(_) => planning::put_costs(words, out, at),
+        Err(Refusal::Overload { at: t, demand }) => planning::put_cuts(words, t, demand, out, at),
+        Err(_) => at,
     }
-    if number == 3 {
-        return planning::put_cuts(words, first, second, out, at);
-    }
-    at
 }
 
 // The calls of a text whose table is admitted, after what is printed of the table.
@@ -75,10 +73,8 @@ fn print(text: &[u8], out: &mut [u8]) -> usize
     let rows = j.rows;
     let words = rows.words;
     let e = 3 * rows.count;
-    let verdict = j.verdict;
-    let n = table::shown(verdict);
-    j.end = put_besides(&words[..e], n.number, n.first, n.second, out, j.end);
-    if n.number != 0 {
+    j.end = put_besides(&words[..e], j.opinion, out, j.end);
+    if j.opinion.is_err() {
         return j.end;
     }
     put_calls(text, j, out)

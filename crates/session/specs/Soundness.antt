@@ -8,10 +8,11 @@ use Rattle.bounded.specs.All.{all_to}
 use Rattle.edf.specs.Demand.{TaskSet}
 use Rattle.table.specs.declared.rows.Task.{Task}
 use Rattle.table.specs.Rows.{horizon, FitRow, Fit}
-use Rattle.table.specs.declared.kind.Kind.{Kind}
-use Rattle.table.specs.Budgets.{marks_at}
-use Rattle.table.specs.Verdict.{opinion_of}
-use Rattle.table.specs.Kind.{KindFor, kind_some}
+use Rattle.table.specs.declared.kind.Admission.{Admission}
+use Rattle.table.specs.Budgets.{marks_of, marks_at}
+use Rattle.table.specs.Verdict.{opinion_of, kind_of}
+use Rattle.table.specs.Opinion.{kind_number, kind_some_number}
+use Rattle.table.specs.Kind.{admitted_as, KindFor, kind_some}
 use Rattle.table.proofs.KindLaws.{kind_none}
 use Rattle.table.proofs.TheoremsLaws.{opinion_fit}
 use Rattle.session.specs.declared.Job.{Job}
@@ -236,45 +237,51 @@ pub check_many : (s : Session) → 16 < s.count → sound s ≡ false
 unfolding sound sound_rows
 check_many s h = simp (lt-leb s.count 16 h)
 
-module _ (s : Session) (few : s.count ≤ 16) (k : Kind) (h : KindFor (rows_of s) k) where
-  pub check_refused : k.number ≡ 0 → sound s ≡ false
+module _ (s : Session) (few : s.count ≤ 16) (k : Option Admission) (h : KindFor (rows_of s) k) where
+  pub check_refused : k ≡ None → sound s ≡ false
   unfolding sound sound_rows
-  check_refused z =
+  check_refused is =
       simp (
         le-leb s.count 16 few,
-        ne_eqb (opinion_of (rows_of s)).number 0 (kind_none (rows_of s) (sym h.number ∙ z)),
+        ne_eqb (opinion_of (rows_of s)).number 0 (kind_none (rows_of s) (sym h.number ∙ ap admitted_as is)),
       )
 
-  module _ (ne : k.number ≡ 0 → ⊥) where
-    answer_is : ((opinion_of (rows_of s)).number ≡ 0) × ((opinion_of (rows_of s)).first ≡ k.number)
+  module _ (a : Admission) (is : k ≡ Some a) where
+    number_is : kind_number a.kind ≡ kind_of (rows_of s)
+    number_is = sym (ap admitted_as is) ∙ h.number
+
+    answer_is : ((opinion_of (rows_of s)).number ≡ 0) × ((opinion_of (rows_of s)).first ≡ kind_number a.kind)
     answer_is =
-        let a = kind_some (rows_of s) (λ z. ne (h.number ∙ z)) in
-        (a.0, a.1 ∙ sym h.number)
+        let o = kind_some (rows_of s) (λ z. kind_some_number a.kind (number_is ∙ z)) in
+        (o.0, o.1 ∙ sym number_is)
+
+    brittle_are : a.brittle ≡ marks_of (tasks s)
+    brittle_are = rw is at h.brittle
 
     -- and which rows are brittle
-    pub marks_are : length s.words ≡ 48 → Marks s k.brittle
+    pub marks_are : length s.words ≡ 48 → Marks s a.brittle
     marks_are p = record {
-      at = λ i l. ap (λ (x : List Bool). get_or x i false) (h.brittle ne)
+      at = λ i l. ap (λ (x : List Bool). get_or x i false) brittle_are
           ∙ marks_at (tasks s) i (opinion_fit (rows_of s) answer_is.0) (omega (arith, rows_count s few p));
     }
 
-    pub check_kind : (k.number ≡ s.kind → ⊥) → sound s ≡ false
+    pub check_kind : (n : ℕ) → n ≡ kind_number a.kind → (n ≡ s.kind → ⊥) → sound s ≡ false
     unfolding sound sound_rows
-    check_kind other =
+    check_kind n q other =
         simp (
           le-leb s.count 16 few,
           eq-eqb (opinion_of (rows_of s)).number 0 answer_is.0,
-          ne_eqb (opinion_of (rows_of s)).first s.kind (λ e. other (sym answer_is.1 ∙ e)),
+          ne_eqb (opinion_of (rows_of s)).first s.kind (λ e. other (q ∙ sym answer_is.1 ∙ e)),
         )
 
-    module _ (same : k.number ≡ s.kind) where
+    module _ (n : ℕ) (q : n ≡ kind_number a.kind) (same : n ≡ s.kind) where
       rows_sound : sound_rows s ≡ true
       unfolding sound_rows
       rows_sound =
           simp (
             le-leb s.count 16 few,
             eq-eqb (opinion_of (rows_of s)).number 0 answer_is.0,
-            eq-eqb (opinion_of (rows_of s)).first s.kind (answer_is.1 ∙ same),
+            eq-eqb (opinion_of (rows_of s)).first s.kind (answer_is.1 ∙ sym q ∙ same),
           )
 
       pub check_clock : clock_end < s.clock → sound s ≡ false
@@ -282,7 +289,7 @@ module _ (s : Session) (few : s.count ≤ 16) (k : Kind) (h : KindFor (rows_of s
       check_clock l = simp (rows_sound, lt-leb s.clock clock_end l)
 
       module _ (u : s.clock ≤ clock_end) where
-        pub check_ready : length s.words ≡ 48 → Checked s k.brittle
+        pub check_ready : length s.words ≡ 48 → Checked s a.brittle
         check_ready p = record {
           few = few;
           places = p;

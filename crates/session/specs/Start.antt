@@ -1,15 +1,14 @@
 -- A start: from a slice of numbers to the fresh session, or to the refusal of the table (docs/SPECIFICATION.md §5.1).
 -- Assumes nothing.
-use Rattle.std.specs.Prelude.{ℕ, zero, suc, ◌+◌, ◌/◌, ◌≤◌, min, ◌≡◌, refl, cond, List, [], ◌∷◌, ◌++◌, eqb, length, get_or, set, take, drop, replicate}
+use Rattle.std.specs.Prelude.{ℕ, zero, suc, ◌+◌, ◌/◌, ◌≤◌, min, ◌≡◌, refl, cond, Result, Ok, Err, List, [], ◌∷◌, ◌++◌, eqb, length, get_or, set, take, drop, replicate}
 use Rattle.std.proofs.Common.{sym, ap, ◌∙◌, arith, eq-eqb, ne_eqb}
 use Rattle.std.proofs.Math.Seq.{length-take-le, take-suc, drop-cons, set-append_seam}
 use Rattle.std.proofs.lemmas.List.{append_assoc, length-replicate}
 use Rattle.bounded.specs.Fold.{fold_to}
-use Rattle.table.specs.declared.Numbers.{Numbers}
 use Rattle.table.specs.declared.Judgement.{Judgement}
-use Rattle.table.specs.declared.Verdict.{Verdict}
+use Rattle.table.specs.declared.Refusal.{Refusal}
 use Rattle.table.specs.Verdict.{opinion_of}
-use Rattle.table.specs.Opinion.{shown_of, Shows, Says, says_of}
+use Rattle.table.specs.Opinion.{kind_number, shown_of, Says, says_of, refusal_some}
 use Rattle.session.specs.declared.Session.{Session}
 use Rattle.session.specs.declared.start.Started.{Started}
 use Rattle.session.specs.Reading.{no_job}
@@ -43,9 +42,9 @@ start_of s l = cond (eqb (opinion_of l).number 0) (fresh_of l (opinion_of l).fir
 abbrev pub session_of : List ℕ → Session
 session_of l = start_of no_session l
 
--- the contract of a start: the verdict of the opinion on the slice, and the session that it leaves
+-- the contract of a start: the opinion on the slice, and the session that it leaves
 pub record Starts (s : Session) (l : List ℕ) (r : Started) : Type 0 where
-  pub verdict : Says r.verdict (opinion_of l)
+  pub opinion : shown_of r.opinion ≡ opinion_of l
   pub session : r.session ≡ start_of s l
 
 -- ---- laws
@@ -84,21 +83,25 @@ pub fresh_is : (l w : List ℕ) (kind n : ℕ) → w ≡ words_to l (min (length
 unfolding fresh_of
 fresh_is l w kind n e f = rw (e, f)
 
-module _ (s : Session) (l : List ℕ) (v : Verdict) (n : Numbers) (h : Says v (opinion_of l)) (g : Shows v n) where
-  pub start_yes : (r : Session) → n.number ≡ 0 → r ≡ fresh_of l n.first → r ≡ start_of s l
-  start_yes r z e = e ∙ ap (fresh_of l) (g.first ∙ h.first) ∙ sym (start_fresh s l (sym (g.number ∙ h.number) ∙ z))
+module _ (s : Session) (l : List ℕ) (v : Result Judgement Refusal) (h : Says v (opinion_of l)) where
+  pub start_yes : (r : Session) (j : Judgement) (k : ℕ) → v ≡ Ok j → k ≡ kind_number j.kind → r ≡ fresh_of l k → r ≡ start_of s l
+  start_yes r j k is q e =
+      let says : Says (Ok j) (opinion_of l) = rw is at h in
+      e ∙ ap (fresh_of l) (q ∙ says.first) ∙ sym (start_fresh s l (sym says.number))
 
-  pub start_not : (n.number ≡ 0 → ⊥) → s ≡ start_of s l
-  start_not ne = sym (start_same s l (λ z. ne (g.number ∙ h.number ∙ z)))
+  pub start_not : (e : Refusal) → v ≡ Err e → s ≡ start_of s l
+  start_not e is =
+      let says : Says (Err e) (opinion_of l) = rw is at h in
+      sym (start_same s l (λ z. refusal_some e (says.number ∙ z)))
 
 pub ruleset start_cases = (start_yes, start_not)
 
-pub start_says : (l : List ℕ) (j : Judgement) → shown_of j ≡ opinion_of l → Says j.verdict (opinion_of l)
-start_says l j e = says_of j (opinion_of l) e
+pub start_says : (l : List ℕ) (v : Result Judgement Refusal) → shown_of v ≡ opinion_of l → Says v (opinion_of l)
+start_says l v e = says_of v (opinion_of l) e
 
-pub starts_is : (s r : Session) (l : List ℕ) (j : Judgement) → shown_of j ≡ opinion_of l → r ≡ start_of s l
-    → Starts s l (record { verdict = j.verdict; session = r })
-starts_is s r l j e f = record { verdict = start_says l j e; session = f }
+pub starts_is : (s r : Session) (l : List ℕ) (v : Result Judgement Refusal) → shown_of v ≡ opinion_of l → r ≡ start_of s l
+    → Starts s l (record { opinion = v; session = r })
+starts_is s r l v e f = record { opinion = e; session = f }
 
 pub ruleset start_laws = (start_says, starts_is)
 

@@ -134,11 +134,8 @@ pub fn check_of(s: Session) -> Option<[bool; 16]>
     }
     let words = s.words;
     let e = 3 * (count as usize);
-    let k = table::kind::kind_of(&words[..e]);
-    if k.number == 0 {
-        return None;
-    }
-    if k.number != s.kind {
+    let k = table::kind::kind_of(&words[..e])?;
+    if u64::from(k.kind) != s.kind {
         return None;
     }
     if Session::CLOCK_END < s.clock {

@@ -5,36 +5,34 @@ ghost use Rattle.table.specs.Opinion.{Says};
 ghost use Rattle.session.specs.Start.{no_session, start_of, Starts};
 
 use super::Session;
-use table::Verdict;
+use table::{Judgement, Refusal};
 
-// The verdict of the opinion on the table, and the session that the start leaves.
+// The opinion on the table, and the session that the start leaves.
 #[derive(Clone, Copy)]
 pub struct Started {
-    pub verdict: Verdict,
+    pub opinion: Result<Judgement, Refusal>,
     pub session: Session,
 }
 
 // The session alone, for a caller who has asked for the opinion, so that the table is judged once. `s` is the session
 // before, which a refused table leaves.
-pub fn start_by(s: Session, words: &[u32], verdict: Verdict) -> Session
-    requires { Says verdict (opinion_of words.now) }
+pub fn start_by(s: Session, words: &[u32], opinion: Result<Judgement, Refusal>) -> Session
+    requires { Says opinion (opinion_of words.now) }
     ensures { result ≡ start_of s words.now }
 {
-    let n = table::shown(verdict);
-    if n.number != 0 {
-        return s;
+    match opinion {
+        Ok(j) => Session::fresh(words, u64::from(j.kind)),
+        Err(_) => s,
     }
-    Session::fresh(words, n.first)
 }
 
 // In place of the session `s`, which a refused table leaves as it was.
 pub fn start_on(s: Session, words: &[u32]) -> Started
     ensures { Starts s words.now result }
 {
-    let judgement = table::opinion(words);
-    let verdict = judgement.verdict;
-    let session = start_by(s, words, verdict);
-    Started { verdict, session }
+    let opinion = table::opinion(words);
+    let session = start_by(s, words, opinion);
+    Started { opinion, session }
 }
 
 // The fresh session of a table; no session where it is refused.

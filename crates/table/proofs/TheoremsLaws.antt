@@ -1,6 +1,6 @@
 -- More laws of specs/Theorems.antt: they rest on what a must-fail edit makes false. Assumes nothing.
 use Prim.Native.Nat.{ℕ, zero, suc, ◌≤◌, ◌<◌}
-use Rattle.std.specs.Prelude.{◌≡◌, refl, true, false, List, ◌⊎◌, pos, length, get_or}
+use Rattle.std.specs.Prelude.{◌≡◌, refl, true, false, Result, List, ◌⊎◌, pos, length, get_or}
 use Rattle.std.proofs.Common.{ap, ◌∙◌, inl, inr, ⊎_elim, arith}
 use Rattle.std.proofs.Math.Bool.{not}
 use Rattle.std.proofs.Math.Logic.{dite}
@@ -20,6 +20,7 @@ use Rattle.table.specs.Verdict.{Opinion, refusal, admitted, bad_length, compared
 use Rattle.table.specs.Opinion.{shown_of, Shows, shows_opinion, length_fit}
 use Rattle.table.specs.declared.Numbers.{Numbers}
 use Rattle.table.specs.declared.Judgement.{Judgement}
+use Rattle.table.specs.declared.Refusal.{Refusal}
 use Rattle.table.specs.Theorems.{Judged, opinion_case, loose_fits, settled_fits, overload_exceeded, unsettled_fits, unsettled_long, is_loose, is_over, is_heavy, is_unsettled}
 
 -- what is known of any slice
@@ -167,7 +168,7 @@ pub refused_fit : (l : List ℕ) → (opinion_of l).number ≡ 3 → Fit (tasks_
 refused_fit l e = (opinion_exceeded l e).0
 
 -- and so do those of every opinion that is neither 1 nor 2
-pub shown_fit : (l : List ℕ) (a : Judgement) (n : Numbers) → shown_of a ≡ opinion_of l → Shows a.verdict n → (n.number ≡ 1 → ⊥) → (n.number ≡ 2 → ⊥) → Fit (tasks_of l)
+pub shown_fit : (l : List ℕ) (a : Result Judgement Refusal) (n : Numbers) → shown_of a ≡ opinion_of l → Shows a n → (n.number ≡ 1 → ⊥) → (n.number ≡ 2 → ⊥) → Fit (tasks_of l)
 shown_fit l a n h s no1 no2 = (opinion_lawful l (λ e. no1 (number_is ∙ e)) (λ e. no2 (number_is ∙ e))).0
   where
     number_is : n.number ≡ (opinion_of l).number

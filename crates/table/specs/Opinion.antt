@@ -1,6 +1,6 @@
 -- What `opinion` promises, and the cases of its code. Assumes nothing.
 use Prim.Native.Nat.{ℕ, ◌%◌, ◌≤◌, ◌<◌, min}
-use Rattle.std.specs.Prelude.{◌≡◌, refl, Bool, true, false, not, List, [], Option, Some, None, is_none, ltb, eqb, ℤ, pos, length, replicate}
+use Rattle.std.specs.Prelude.{◌≡◌, refl, Bool, true, false, not, List, Option, Some, None, is_none, ltb, eqb, length, Result, Ok, Err, is_err}
 use Rattle.std.proofs.Math.Path.{sym, ap}
 use Rattle.std.proofs.Common.{◌∙◌, true≢false, arith}
 use Rattle.std.proofs.Math.Bool.{cond}
@@ -8,8 +8,10 @@ use borrow.Author.Tests.{eq-eqb, ne_eqb, lt-ltb, le-ltb, le-leb, lt-leb, ltb-tru
 use Rattle.bounded.specs.Tests.{both}
 use Rattle.bounded.specs.Least.{least_from, least_found, least_none}
 use Rattle.edf.specs.Demand.{TaskSet, demand}
-use Rattle.table.specs.declared.Verdict.{Verdict}
-use Rattle.table.specs.declared.Verdict.TheVariants.{Loose, Tight, Mixed, Length, Row, Overload, Unsettled}
+use Rattle.table.specs.declared.kind.Kind.{Kind}
+use Rattle.table.specs.declared.kind.Kind.TheVariants.{Loose, Tight, Mixed}
+use Rattle.table.specs.declared.Refusal.{Refusal}
+use Rattle.table.specs.declared.Refusal.TheVariants.{Length, Row, Overload, Unsettled}
 use Rattle.table.specs.declared.Numbers.{Numbers}
 use Rattle.table.specs.declared.Judgement.{Judgement}
 use Rattle.table.specs.declared.budgets.Budgets.{Budgets}
@@ -21,87 +23,91 @@ use Rattle.table.specs.Budgets.{loose, values_of, marks_of, budgets_of}
 use Rattle.table.specs.Busy.{busy_length, or_past, Settled, length_some, length_none}
 use Rattle.table.specs.Overload.{Searched, over, none}
 use Rattle.table.specs.First.{First}
-use Rattle.table.specs.Verdict.{Opinion, admitted, bad_length, compared_to, first_overload, overloaded, settled, heavy_kind, judged_of, opinion_of}
+use Rattle.table.specs.Verdict.{Opinion, refusal, admitted, bad_length, compared_to, first_overload, overloaded, settled, heavy_kind, judged_of, opinion_of}
 
--- each verdict's number, and its two values (docs/SPECIFICATION.md §3.2)
-abbrev pub shown : Verdict → List ℤ → Opinion
-shown (Loose n) v = record { number = 0; first = 1; second = n; budgets = v }
-shown (Tight n) v = record { number = 0; first = 2; second = n; budgets = v }
-shown (Mixed n) v = record { number = 0; first = 3; second = n; budgets = v }
-shown (Length n) v = record { number = 1; first = n; second = 0; budgets = v }
-shown (Row i) v = record { number = 2; first = i; second = 0; budgets = v }
-shown (Overload t d) v = record { number = 3; first = t; second = d; budgets = v }
-shown Unsettled v = record { number = 4; first = horizon; second = 0; budgets = v }
+-- the number of a kind, as an opinion's first value has it
+abbrev pub kind_number : Kind → ℕ
+kind_number Loose = 1
+kind_number Tight = 2
+kind_number Mixed = 3
 
--- n has a verdict's number and values
-pub record Shows (v : Verdict) (n : Numbers) : Type 0 where
-  pub number : n.number ≡ (shown v []).number
-  pub first : n.first ≡ (shown v []).first
-  pub second : n.second ≡ (shown v []).second
+pub kind_some_number : (k : Kind) → kind_number k ≡ 0 → ⊥
+kind_some_number Loose z = omega arith
+kind_some_number Tight z = omega arith
+kind_some_number Mixed z = omega arith
 
-abbrev pub shown_of : Judgement → Opinion
-shown_of a = shown a.verdict a.budgets
+-- each opinion's number, its two values and V of each row (docs/SPECIFICATION.md §3.2)
+abbrev pub shown_of : Result Judgement Refusal → Opinion
+shown_of (Ok j) = record { number = 0; first = kind_number j.kind; second = j.rows; budgets = j.budgets }
+shown_of (Err (Length n)) = refusal 1 n 0
+shown_of (Err (Row i)) = refusal 2 i 0
+shown_of (Err (Overload t d)) = refusal 3 t d
+shown_of (Err Unsettled) = refusal 4 horizon 0
+
+-- n has the number and the values of the opinion v
+pub record Shows (v : Result Judgement Refusal) (n : Numbers) : Type 0 where
+  pub number : n.number ≡ (shown_of v).number
+  pub first : n.first ≡ (shown_of v).first
+  pub second : n.second ≡ (shown_of v).second
 
 -- v says what the opinion o says, but for the budgets: its number and values
-pub record Says (v : Verdict) (o : Opinion) : Type 0 where
-  pub number : (shown v []).number ≡ o.number
-  pub first : (shown v []).first ≡ o.first
-  pub second : (shown v []).second ≡ o.second
+pub record Says (v : Result Judgement Refusal) (o : Opinion) : Type 0 where
+  pub number : (shown_of v).number ≡ o.number
+  pub first : (shown_of v).first ≡ o.first
+  pub second : (shown_of v).second ≡ o.second
 
--- a verdict's number and values are the same with any budgets
-pub shows_of : (a : Judgement) (n : Numbers) → Shows a.verdict n → shown_of a ≡ record { number = n.number; first = n.first; second = n.second; budgets = a.budgets }
-shows_of a n s = by a.verdict s
+-- the numbers with the budgets are the opinion
+pub shows_of : (v : Result Judgement Refusal) (n : Numbers) → Shows v n
+    → shown_of v ≡ record { number = n.number; first = n.first; second = n.second; budgets = (shown_of v).budgets }
+shows_of v n s = rw (s.number, s.first, s.second) refl
+
+-- so where v is the opinion on l, its numbers are that opinion's
+pub shows_opinion : (l : List ℕ) (v : Result Judgement Refusal) (n : Numbers) → shown_of v ≡ opinion_of l → Shows v n
+    → record { number = n.number; first = n.first; second = n.second; budgets = (shown_of v).budgets } ≡ opinion_of l
+shows_opinion l v n h s = sym (shows_of v n s) ∙ h
+
+-- two opinions with the same number, values and budgets are the same
+kind_in_lem : ℕ → Kind
+kind_in_lem k = cond (eqb k 1) Loose (cond (eqb k 2) Tight Mixed)
+
+opinion_in : Opinion → Result Judgement Refusal
+opinion_in o =
+    cond (eqb o.number 0) (Ok (record { kind = kind_in_lem o.first; rows = o.second; budgets = o.budgets }))
+    (Err (cond (eqb o.number 1) (Length o.first) (cond (eqb o.number 2) (Row o.first) (cond (eqb o.number 3) (Overload o.first o.second) Unsettled))))
+
+opinion_in_lem : (v : Result Judgement Refusal) → opinion_in (shown_of v) ≡ v
+unfolding opinion_in kind_in_lem
+opinion_in_lem (Ok j) = by j j.kind refl
   where
-    by : (v : Verdict) → Shows v n → shown v a.budgets ≡ record { number = n.number; first = n.first; second = n.second; budgets = a.budgets }
-    by (Loose r) s = rw (s.number, s.first, s.second)
-    by (Tight r) s = rw (s.number, s.first, s.second)
-    by (Mixed r) s = rw (s.number, s.first, s.second)
-    by (Length r) s = rw (s.number, s.first, s.second)
-    by (Row r) s = rw (s.number, s.first, s.second)
-    by (Overload t d) s = rw (s.number, s.first, s.second)
-    by Unsettled s = rw (s.number, s.first, s.second)
+    by : (j : Judgement) (k : Kind) → j.kind ≡ k → opinion_in (shown_of (Ok j)) ≡ Ok j
+    by j Loose e = rw e refl
+    by j Tight e = rw e refl
+    by j Mixed e = rw e refl
+opinion_in_lem (Err (Length n)) = refl
+opinion_in_lem (Err (Row i)) = refl
+opinion_in_lem (Err (Overload t d)) = refl
+opinion_in_lem (Err Unsettled) = refl
 
--- so where a is the opinion on l, its numbers are that opinion's
-pub shows_opinion : (l : List ℕ) (a : Judgement) (n : Numbers) → shown_of a ≡ opinion_of l → Shows a.verdict n
-    → record { number = n.number; first = n.first; second = n.second; budgets = a.budgets } ≡ opinion_of l
-shows_opinion l a n h s = sym (shows_of a n s) ∙ h
+pub shown_one : (v w : Result Judgement Refusal) → shown_of v ≡ shown_of w → v ≡ w
+shown_one v w e = sym (opinion_in_lem v) ∙ ap opinion_in e ∙ opinion_in_lem w
 
--- the verdict of a judgement says what the judgement does
-pub says_of : (j : Judgement) (o : Opinion) → shown_of j ≡ o → Says j.verdict o
-says_of j o e = rw (← e) (by j.verdict j.budgets)
-  where
-    by : (v : Verdict) (b : List ℤ) → Says v (shown v b)
-    by (Loose r) b = record { number = refl; first = refl; second = refl }
-    by (Tight r) b = record { number = refl; first = refl; second = refl }
-    by (Mixed r) b = record { number = refl; first = refl; second = refl }
-    by (Length r) b = record { number = refl; first = refl; second = refl }
-    by (Row r) b = record { number = refl; first = refl; second = refl }
-    by (Overload t d) b = record { number = refl; first = refl; second = refl }
-    by Unsettled b = record { number = refl; first = refl; second = refl }
+-- a refusal has a number above 0
+pub refusal_some : (r : Refusal) → (shown_of (Err r)).number ≡ 0 → ⊥
+refusal_some (Length n) z = omega arith
+refusal_some (Row i) z = omega arith
+refusal_some (Overload t d) z = omega arith
+refusal_some Unsettled z = omega arith
 
--- a verdict is known by its number and values,
-verdict_in : ℕ → ℕ → ℕ → Verdict
-verdict_in k a b =
-    cond (eqb k 0) (cond (eqb a 1) (Loose b) (cond (eqb a 2) (Tight b) (Mixed b)))
-    (cond (eqb k 1) (Length a) (cond (eqb k 2) (Row a) (cond (eqb k 3) (Overload a b) Unsettled)))
+pub refused_number : (v : Result Judgement Refusal) → is_err v ≡ not (eqb (shown_of v).number 0)
+refused_number (Ok j) = refl
+refused_number (Err (Length n)) = refl
+refused_number (Err (Row i)) = refl
+refused_number (Err (Overload t d)) = refl
+refused_number (Err Unsettled) = refl
 
-verdict_in_lem : (v : Verdict) → verdict_in (shown v []).number (shown v []).first (shown v []).second ≡ v
-unfolding verdict_in
-verdict_in_lem (Loose n) = refl
-verdict_in_lem (Tight n) = refl
-verdict_in_lem (Mixed n) = refl
-verdict_in_lem (Length n) = refl
-verdict_in_lem (Row i) = refl
-verdict_in_lem (Overload t d) = refl
-verdict_in_lem Unsettled = refl
-
--- so two that say the same are the same
-pub says_one : (v w : Verdict) (o : Opinion) → Says v o → Says w o → v ≡ w
-says_one v w o h g =
-    sym (verdict_in_lem v) ∙ rw (h.number, h.first, h.second, ← g.number, ← g.first, ← g.second) (verdict_in_lem w)
-
-abbrev pub refused_of : Verdict → Judgement
-refused_of v = record { verdict = v; budgets = replicate 16 (pos 0) }
+-- an opinion says what it is
+pub says_of : (v : Result Judgement Refusal) (o : Opinion) → shown_of v ≡ o → Says v o
+says_of v o e = rw (← e) (record { number = refl; first = refl; second = refl })
 
 -- ---- the length
 
@@ -173,7 +179,7 @@ module _ (τ : TaskSet) (b : Budgets) (e : b ≡ budgets_of τ) where
   unfolding budgets_of
   is_values = ap (λ z. z.values) e
 
-  pub judge_loose : (n : ℕ) → n ≡ τ.rows → b.loose ≡ true → shown_of (record { verdict = Loose n; budgets = b.values }) ≡ judged_of τ
+  pub judge_loose : (n : ℕ) → n ≡ τ.rows → b.loose ≡ true → shown_of (Ok (record { kind = Loose; rows = n; budgets = b.values })) ≡ judged_of τ
   unfolding judged_of
   judge_loose n h t = simp (sym is_loose_lem ∙ t, h, is_values)
 
@@ -182,12 +188,12 @@ module _ (τ : TaskSet) (b : Budgets) (e : b ≡ budgets_of τ) where
     unfolding compared_to
     is_compared = m ∙ ap (λ (z : ℕ). min z 1000000) s.is
 
-    pub judge_overload : (a : Judgement) (f : Found) (n : ℕ) (g : Counted) → Searched τ 0 end (Some f) n → First τ (record { found = f; sums = n }) g
-        → a ≡ refused_of (Overload g.found.at g.found.demand) → shown_of a ≡ judged_of τ
+    pub judge_overload : (f : Found) (n : ℕ) (g : Counted) → Searched τ 0 end (Some f) n → First τ (record { found = f; sums = n }) g
+        → shown_of (Err (Overload g.found.at g.found.demand)) ≡ judged_of τ
     unfolding judged_of
-    judge_overload a f n g (over x) w e =
+    judge_overload f n g (over x) w =
         let h = overloaded_first τ g.found.at w.low (omega (arith, w.high, x.high, is_compared)) (omega (arith, w.is, w.over)) w.before in
-        simp (e, sym is_loose_lem ∙ no, h.1, w.is, h.0)
+        simp (sym is_loose_lem ∙ no, h.1, w.is, h.0)
 
     module _ (n : ℕ) (o : Option Found) (r : Searched τ 0 end o n) (z : o ≡ None) where
       found_none : overloaded τ ≡ false
@@ -197,10 +203,10 @@ module _ (τ : TaskSet) (b : Budgets) (e : b ≡ budgets_of τ) where
           by (over x) z = cc
           by (none c g) z = overloaded_none τ (λ x p q. g x p (omega (arith, is_compared)))
 
-      pub judge_unsettled : (a : Judgement) → is_none y.length ≡ true → a ≡ refused_of Unsettled → shown_of a ≡ judged_of τ
+      pub judge_unsettled : is_none y.length ≡ true → shown_of (Err Unsettled) ≡ judged_of τ
       unfolding judged_of settled
-      judge_unsettled a h g =
-          simp (g, sym is_loose_lem ∙ no, found_none, lt-leb (busy_length τ) horizon (length_none τ y s h))
+      judge_unsettled h =
+          simp (sym is_loose_lem ∙ no, found_none, lt-leb (busy_length τ) horizon (length_none τ y s h))
 
       -- the kind k of a table that is not loose
       judge_heavy : (k : ℕ) → heavy_kind τ ≡ k → is_none y.length ≡ false → admitted k τ ≡ judged_of τ
@@ -209,11 +215,11 @@ module _ (τ : TaskSet) (b : Budgets) (e : b ≡ budgets_of τ) where
           simp (sym is_loose_lem ∙ no, found_none, le-leb (busy_length τ) horizon (length_some τ y s h), q)
 
       pub judge_mixed : (n : ℕ) → n ≡ τ.rows → is_none y.length ≡ false → b.firm ≡ true
-          → shown_of (record { verdict = Mixed n; budgets = b.values }) ≡ judged_of τ
+          → shown_of (Ok (record { kind = Mixed; rows = n; budgets = b.values })) ≡ judged_of τ
       judge_mixed n k h t = rw (k, is_values) (judge_heavy 3 (heavy_kind_lem true t) h)
 
       pub judge_tight : (n : ℕ) → n ≡ τ.rows → is_none y.length ≡ false → b.firm ≡ false
-          → shown_of (record { verdict = Tight n; budgets = b.values }) ≡ judged_of τ
+          → shown_of (Ok (record { kind = Tight; rows = n; budgets = b.values })) ≡ judged_of τ
       judge_tight n k h t = rw (k, is_values) (judge_heavy 2 (heavy_kind_lem false t) h)
 
 pub ruleset judge_cases = (judge_loose, judge_overload, judge_unsettled, judge_mixed, judge_tight)
@@ -221,18 +227,18 @@ pub ruleset judge_cases = (judge_loose, judge_overload, judge_unsettled, judge_m
 -- ---- and for any slice
 
 module _ (l : List ℕ) (b : Bool) (e : b ≡ bad_length (length l)) where
-  pub say_length : (a : Judgement) → b ≡ true → a ≡ refused_of (Length (length l)) → shown_of a ≡ opinion_of l
+  pub say_length : b ≡ true → shown_of (Err (Length (length l))) ≡ opinion_of l
   unfolding opinion_of
-  say_length a t g = simp (g, sym e ∙ t)
+  say_length t = simp (sym e ∙ t)
 
   module _ (i n : ℕ) (f : i ≡ first_broken_lem (tasks_of l)) (k : n ≡ (tasks_of l).rows) (no : b ≡ false) where
-    pub say_row : (a : Judgement) → i < n → a ≡ refused_of (Row i) → shown_of a ≡ opinion_of l
+    pub say_row : i < n → shown_of (Err (Row i)) ≡ opinion_of l
     unfolding opinion_of
-    say_row a h g = simp (g, sym e ∙ no, lt-ltb (first_broken_lem (tasks_of l)) (tasks_of l).rows (omega arith), f)
+    say_row h = simp (sym e ∙ no, lt-ltb (first_broken_lem (tasks_of l)) (tasks_of l).rows (omega arith), f)
 
     pub say_fit : n ≤ i → Fit (tasks_of l)
     say_fit h = let g = length_fit l (sym e ∙ no) in fit_of (tasks_of l) g.0 g.1 (omega arith)
 
-    pub say_judged : (a : Judgement) → n ≤ i → shown_of a ≡ judged_of (tasks_of l) → shown_of a ≡ opinion_of l
+    pub say_judged : (a : Result Judgement Refusal) → n ≤ i → shown_of a ≡ judged_of (tasks_of l) → shown_of a ≡ opinion_of l
     unfolding opinion_of
     say_judged a h j = simp (sym e ∙ no, le-ltb (first_broken_lem (tasks_of l)) (tasks_of l).rows (omega arith)) j

@@ -2,7 +2,8 @@
 // §5.2). It needs no busy length, nor which refusal it is, and so takes less than `opinion`.
 ghost use Rattle.std.specs.Prelude.{◌≡◌};
 ghost use Rattle.table.specs.Rows.{tasks_of, Fit};
-ghost use Rattle.table.specs.Kind.{fit_kind_lem, KindFor};
+ghost use Rattle.table.specs.Opinion.{kind_number};
+ghost use Rattle.table.specs.Kind.{FitKind, KindFor};
 
 use super::budgets::all_budgets;
 use super::ill_sized;
@@ -11,54 +12,65 @@ use super::overload::search;
 use super::rows::{count, first_broken};
 use super::settle::settling;
 
-// 1 loose, 2 tight, 3 mixed, 0 refused; and where it is not refused, which rows are brittle.
+// The kind of an admitted table; 1, 2 or 3 where it is a number.
 #[derive(Clone, Copy)]
-pub struct Kind {
-    pub number: u64,
+pub enum Kind {
+    Loose,
+    Tight,
+    Mixed,
+}
+
+impl From<Kind> for u64 {
+    ghost from_gives = { λ k n. n ≡ kind_number k };
+
+    fn from(kind: Kind) -> u64 {
+        match kind {
+            Kind::Loose => 1,
+            Kind::Tight => 2,
+            Kind::Mixed => 3,
+        }
+    }
+}
+
+// An admitted table's kind, and which of its rows are brittle.
+#[derive(Clone, Copy)]
+pub struct Admission {
+    pub kind: Kind,
     pub brittle: [bool; 16],
 }
 
 // The kind of rows that keep their rule.
-fn fit_kind(words: &[u32]) -> Kind
+fn fit_kind(words: &[u32]) -> Option<Admission>
     requires { Fit (tasks_of words.now) }
-    ensures { result ≡ fit_kind_lem (tasks_of words.now) }
+    ensures { FitKind (tasks_of words.now) result }
 {
     let inverses = inverses_of(words);
     let b = all_budgets(words, &inverses);
     let brittle = b.brittle;
     if b.loose {
-        return Kind { number: 1, brittle };
+        return Some(Admission {
+            kind: Kind::Loose,
+            brittle,
+        });
     }
-    let Some(end) = settling(words, &inverses) else {
-        return Kind { number: 0, brittle };
-    };
+    let end = settling(words, &inverses)?;
     let s = search(words, &inverses, 0, end);
     if s.found.is_some() {
-        return Kind { number: 0, brittle };
+        return None;
     }
-    if b.firm {
-        return Kind { number: 3, brittle };
-    }
-    Kind { number: 2, brittle }
+    let kind = if b.firm { Kind::Mixed } else { Kind::Tight };
+    Some(Admission { kind, brittle })
 }
 
-// The kind of any slice.
-pub fn kind_of(words: &[u32]) -> Kind
+// The kind of any slice; none where the table is refused.
+pub fn kind_of(words: &[u32]) -> Option<Admission>
     ensures { KindFor words.now result }
 {
-    let n = words.len();
-    if ill_sized(n) {
-        return Kind {
-            number: 0,
-            brittle: [false; 16],
-        };
+    if ill_sized(words.len()) {
+        return None;
     }
-    let i = first_broken(words);
-    if i < count(words) {
-        return Kind {
-            number: 0,
-            brittle: [false; 16],
-        };
+    if first_broken(words) < count(words) {
+        return None;
     }
     fit_kind(words)
 }

@@ -5,7 +5,7 @@ ghost use Rattle.std.specs.Prelude.{◌≡◌, min};
 ghost use Rattle.table.specs.Rows.{tasks_of, Fit};
 ghost use Rattle.table.specs.Busy.{or_past};
 ghost use Rattle.table.specs.Verdict.{bad_length, judged_of, opinion_of};
-ghost use Rattle.table.specs.Opinion.{Shows, shown_of, refused_of};
+ghost use Rattle.table.specs.Opinion.{Shows, shown_of};
 
 pub mod budgets;
 pub mod busy;
@@ -22,13 +22,19 @@ mod settle;
 mod sieve;
 
 use first::{Counted, first};
+use kind::Kind;
 
-// The three kinds of an admitted table, and the four refusals (docs/SPECIFICATION.md §3; `shown_of` gives their numbers).
+// The opinion on an admitted table: its kind, how many rows it has, and V of each, 0 past the last row.
 #[derive(Clone, Copy)]
-pub enum Verdict {
-    Loose { rows: usize },
-    Tight { rows: usize },
-    Mixed { rows: usize },
+pub struct Judgement {
+    pub kind: Kind,
+    pub rows: usize,
+    pub budgets: [i64; 16],
+}
+
+// Why a table is refused (docs/SPECIFICATION.md §3; `shown_of` gives the numbers).
+#[derive(Clone, Copy)]
+pub enum Refusal {
     // The slice's length is none that a table has.
     Length(usize),
     // The first row that breaks its rule.
@@ -39,14 +45,7 @@ pub enum Verdict {
     Unsettled,
 }
 
-// An opinion: the verdict, and V of each row, 0 past the last row, and in all places where the table is refused.
-#[derive(Clone, Copy)]
-pub struct Judgement {
-    pub verdict: Verdict,
-    pub budgets: [i64; 16],
-}
-
-// What a reader of numbers sees of a verdict: its number, 0 where the table is admitted, and two values.
+// What a reader of numbers sees of an opinion, but for V: its number, 0 where the table is admitted, and two values.
 #[derive(Clone, Copy)]
 pub struct Numbers {
     pub number: u64,
@@ -54,54 +53,20 @@ pub struct Numbers {
     pub second: u64,
 }
 
-pub fn shown(verdict: Verdict) -> Numbers
-    ensures { Shows verdict result }
+pub fn shown(opinion: Result<Judgement, Refusal>) -> Numbers
+    ensures { Shows opinion result }
 {
-    match verdict {
-        Verdict::Loose { rows } => Numbers {
-            number: 0,
-            first: 1,
-            second: rows as u64,
-        },
-        Verdict::Tight { rows } => Numbers {
-            number: 0,
-            first: 2,
-            second: rows as u64,
-        },
-        Verdict::Mixed { rows } => Numbers {
-            number: 0,
-            first: 3,
-            second: rows as u64,
-        },
-        Verdict::Length(n) => Numbers {
-            number: 1,
-            first: n as u64,
-            second: 0,
-        },
-        Verdict::Row(i) => Numbers {
-            number: 2,
-            first: i as u64,
-            second: 0,
-        },
-        Verdict::Overload { at, demand } => Numbers {
-            number: 3,
-            first: at,
-            second: demand,
-        },
-        Verdict::Unsettled => Numbers {
-            number: 4,
-            first: 1000000,
-            second: 0,
-        },
-    }
-}
-
-fn refused(verdict: Verdict) -> Judgement
-    ensures { result ≡ refused_of verdict }
-{
-    Judgement {
-        verdict,
-        budgets: [0i64; 16],
+    let (number, first, second) = match opinion {
+        Ok(j) => (0, u64::from(j.kind), j.rows as u64),
+        Err(Refusal::Length(n)) => (1, n as u64, 0),
+        Err(Refusal::Row(i)) => (2, i as u64, 0),
+        Err(Refusal::Overload { at, demand }) => (3, at, demand),
+        Err(Refusal::Unsettled) => (4, 1000000, 0),
+    };
+    Numbers {
+        number,
+        first,
+        second,
     }
 }
 
@@ -123,19 +88,20 @@ pub fn compared(busy: Option<u64>) -> u64
 }
 
 // The opinion on rows that keep their rule.
-fn judge(words: &[u32]) -> Judgement
+fn judge(words: &[u32]) -> Result<Judgement, Refusal>
     requires { Fit (tasks_of words.now) }
     ensures { shown_of result ≡ judged_of (tasks_of words.now) }
 {
     let rows = rows::count(words);
     let inverses = inverse::inverses_of(words);
     let b = budgets::all_budgets(words, &inverses);
-    let values = b.values;
+    let budgets = b.values;
     if b.loose {
-        return Judgement {
-            verdict: Verdict::Loose { rows },
-            budgets: values,
-        };
+        return Ok(Judgement {
+            kind: Kind::Loose,
+            rows,
+            budgets,
+        });
     }
     let busy = busy::busy_length(words, &inverses);
     let search = overload::search(words, &inverses, 0, compared(busy.length));
@@ -145,37 +111,33 @@ fn judge(words: &[u32]) -> Judgement
             sums: search.sums,
         };
         let first = first(words, &inverses, last).found;
-        return refused(Verdict::Overload {
+        return Err(Refusal::Overload {
             at: first.at,
             demand: first.demand,
         });
     }
     if busy.length.is_none() {
-        return refused(Verdict::Unsettled);
+        return Err(Refusal::Unsettled);
     }
-    if b.firm {
-        return Judgement {
-            verdict: Verdict::Mixed { rows },
-            budgets: values,
-        };
-    }
-    Judgement {
-        verdict: Verdict::Tight { rows },
-        budgets: values,
-    }
+    let kind = if b.firm { Kind::Mixed } else { Kind::Tight };
+    Ok(Judgement {
+        kind,
+        rows,
+        budgets,
+    })
 }
 
 // The opinion on any slice. No session is made: `session::start::start` does that.
-pub fn opinion(words: &[u32]) -> Judgement
+pub fn opinion(words: &[u32]) -> Result<Judgement, Refusal>
     ensures { shown_of result ≡ opinion_of words.now }
 {
     let n = words.len();
     if ill_sized(n) {
-        return refused(Verdict::Length(n));
+        return Err(Refusal::Length(n));
     }
     let i = rows::first_broken(words);
     if i < rows::count(words) {
-        return refused(Verdict::Row(i));
+        return Err(Refusal::Row(i));
     }
     judge(words)
 }

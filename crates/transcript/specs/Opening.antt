@@ -1,5 +1,5 @@
 -- From the table to the calls. Assumes nothing.
-use Rattle.std.specs.Prelude.{ℕ, suc, ◌+◌, ◌*◌, ◌/◌, ◌≤◌, ◌≡◌, refl, true, false, not, cond, List, [], ◌++◌, eqb, take, drop}
+use Rattle.std.specs.Prelude.{ℕ, suc, ◌+◌, ◌*◌, ◌/◌, ◌≤◌, ◌≡◌, refl, true, false, not, cond, Result, List, [], ◌++◌, eqb, take, drop}
 use Rattle.std.proofs.Common.{sym, subst, ◌∙◌, append-nil, arith, length-take-le, eqb-true}
 use Rattle.std.proofs.Math.Path.{ap}
 use Rattle.std.proofs.Math.ListN.{length}
@@ -11,6 +11,7 @@ use Rattle.table.specs.declared.Numbers.{Numbers}
 use Rattle.table.specs.Rows.{tasks_of}
 use Rattle.table.specs.Verdict.{Opinion, opinion_of}
 use Rattle.table.specs.declared.Judgement.{Judgement}
+use Rattle.table.specs.declared.Refusal.{Refusal}
 use Rattle.table.specs.Opinion.{shown_of, Shows, shows_of}
 use Rattle.table.proofs.TheoremsLaws.{opinion_admitted}
 use Rattle.report.specs.Text.{opinion_text}
@@ -69,7 +70,7 @@ module _ (text : List ℕ) (r : State) (before after : List ℕ) (o : Opened tex
 
 -- ---- the code
 
-module _ (text : List ℕ) (t : Rows) (st : Stated text t) (ws : List ℕ) (e : ws ≡ take (3 * t.count) t.words) (j : Judgement) (op : shown_of j ≡ opinion_of ws) where
+module _ (text : List ℕ) (t : Rows) (st : Stated text t) (ws : List ℕ) (e : ws ≡ take (3 * t.count) t.words) (j : Result Judgement Refusal) (op : shown_of j ≡ opinion_of ws) where
   rows_are : rows_in row_limit (lines_of text) ≡ ws
   rows_are = st.rows ∙ sym e
 
@@ -88,7 +89,7 @@ module _ (text : List ℕ) (t : Rows) (st : Stated text t) (ws : List ℕ) (e : 
       ∙ (opinion_admitted ws (sym (ap (λ (x : Opinion). x.number) op) ∙ z)).1
       ∙ omega (arith, rows_count)
 
-  module _ (n : Numbers) (sh : Shows j.verdict n) (before after : List ℕ) (end : ℕ) (x : Reported (shown_of j) t.count before after 0 end)
+  module _ (n : Numbers) (sh : Shows j n) (before after : List ℕ) (end : ℕ) (x : Reported (shown_of j) t.count before after 0 end)
       (s₀ s : Session) (e₀ : s₀ ≡ no_session) (is : s ≡ start_of s₀ ws) where
     -- the calls start from the fresh session, with no words, at the line after the rows
     abbrev first : State

@@ -1,5 +1,5 @@
 -- The code from the table to the calls: `begin` in two halves, for `response`, which prints more between them. Assumes nothing.
-use Rattle.std.specs.Prelude.{ℕ, suc, ◌+◌, ◌*◌, ◌/◌, ◌≤◌, ◌≡◌, refl, true, false, not, cond, List, [], eqb, take, drop}
+use Rattle.std.specs.Prelude.{ℕ, suc, ◌+◌, ◌*◌, ◌/◌, ◌≤◌, ◌≡◌, refl, Bool, true, false, not, cond, Result, is_err, List, [], eqb, take, drop}
 use Rattle.std.proofs.Common.{sym, subst, ◌∙◌, arith, length-take-le, eqb-true}
 use Rattle.std.proofs.Math.Path.{ap}
 use Rattle.std.proofs.Math.ListN.{length}
@@ -7,10 +7,10 @@ use Rattle.std.proofs.lemmas.Bool.{not-true, not-false}
 use Rattle.decimal.specs.Buffer.{Wrote}
 use Rattle.lines.specs.declared.read.Line.{Line}
 use Rattle.lines.specs.Lines.{lines_of}
-use Rattle.table.specs.declared.Numbers.{Numbers}
 use Rattle.table.specs.Verdict.{opinion_of}
 use Rattle.table.specs.declared.Judgement.{Judgement}
-use Rattle.table.specs.Opinion.{shown, shown_of, Shows, Says, says_of}
+use Rattle.table.specs.declared.Refusal.{Refusal}
+use Rattle.table.specs.Opinion.{shown_of, Says, says_of, refused_number}
 use Rattle.report.specs.Text.{opinion_text}
 use Rattle.report.specs.Put.{Reported}
 use Rattle.session.specs.declared.Session.{Session}
@@ -35,23 +35,23 @@ calls_by f l =
 abbrev pub table_in : Rows → List ℕ
 table_in t = take (3 * t.count) t.words
 
--- the opinion on the table of the text was printed, and j has the table and the verdict
+-- the opinion on the table of the text was printed, and j has the table and the opinion
 pub record Judges (text : List ℕ) (j : Judged) (before after : List ℕ) : Type 0 where
   pub stated : Stated text j.rows
-  pub says : Says j.verdict (opinion_in text)
+  pub says : Says j.opinion (opinion_in text)
   pub wrote : Wrote 1478 (opinion_text (opinion_in text)) before after 0 j.end
 
--- j has a table and the verdict on it
+-- j has a table and the opinion on it
 pub record Startable (j : Judged) : Type 0 where
   pub few : j.rows.count ≤ 16
   pub places : length j.rows.words ≡ 48
-  pub says : Says j.verdict (opinion_of (table_in j.rows))
+  pub says : Says j.opinion (opinion_of (table_in j.rows))
 
 -- the calls start from the fresh session, with no words, at the line after the rows
 abbrev pub started_by : Judged → State
 started_by j = record {
   session = start_of no_session (table_in j.rows);
-  play = record { from = 0; to = 0; line = j.rows.count + 1; end = j.end; over = not (eqb (shown j.verdict []).number 0) };
+  play = record { from = 0; to = 0; line = j.rows.count + 1; end = j.end; over = not (eqb (shown_of j.opinion).number 0) };
   at = j.rows.at;
 }
 
@@ -82,12 +82,12 @@ module _ (text : List ℕ) (r : State) (o : Opens text r) (f : Session → List 
 
 -- ---- `judge`
 
-module _ (text : List ℕ) (t : Rows) (st : Stated text t) (ws : List ℕ) (e : ws ≡ table_in t) (j : Judgement) (op : shown_of j ≡ opinion_of ws) where
+module _ (text : List ℕ) (t : Rows) (st : Stated text t) (ws : List ℕ) (e : ws ≡ table_in t) (j : Result Judgement Refusal) (op : shown_of j ≡ opinion_of ws) where
   opinion_is : opinion_in text ≡ shown_of j
   opinion_is = ap opinion_of (st.rows ∙ sym e) ∙ sym op
 
   pub judged : (before after : List ℕ) (end : ℕ) → Reported (shown_of j) t.count before after 0 end
-      → Judges text (record { rows = t; verdict = j.verdict; end = end }) before after
+      → Judges text (record { rows = t; opinion = j; end = end }) before after
   judged before after end x = record {
     stated = st;
     says = rw opinion_is (says_of j (shown_of j) refl);
@@ -98,23 +98,23 @@ pub ruleset judge_laws = (second_is, judged)
 
 -- ---- `started`
 
-pub started_says : (j : Judged) (ws : List ℕ) → ws ≡ table_in j.rows → Startable j → Says j.verdict (opinion_of ws)
+pub started_says : (j : Judged) (ws : List ℕ) → ws ≡ table_in j.rows → Startable j → Says j.opinion (opinion_of ws)
 started_says j ws e h = rw e h.says
 
-pub started_is : (j : Judged) (ws : List ℕ) (n : Numbers) (s₀ s : Session) → ws ≡ table_in j.rows → Shows j.verdict n → s₀ ≡ no_session → s ≡ start_of s₀ ws
+pub started_is : (j : Judged) (ws : List ℕ) (over : Bool) (s₀ s : Session) → ws ≡ table_in j.rows → over ≡ is_err j.opinion → s₀ ≡ no_session → s ≡ start_of s₀ ws
     → record {
       session = s;
-      play = record { from = 0; to = 0; line = j.rows.count + 1; end = j.end; over = not (eqb n.number 0) };
+      play = record { from = 0; to = 0; line = j.rows.count + 1; end = j.end; over = over };
       at = j.rows.at;
     }
     ≡ started_by j
-started_is j ws n s₀ s e h z is = rw (h.number, is, z, e)
+started_is j ws over s₀ s e h z is = rw (h, refused_number j.opinion, is, z, e)
 
 pub ruleset started_laws = (started_says, started_is)
 
 -- ---- `begin`
 
-module _ (text : List ℕ) (j : Judged) (st : Stated text j.rows) (says : Says j.verdict (opinion_in text)) where
+module _ (text : List ℕ) (j : Judged) (st : Stated text j.rows) (says : Says j.opinion (opinion_in text)) where
   pub judged_startable : Startable j
   judged_startable = record { few = st.few; places = st.places; says = rw (← st.rows) says }
 
@@ -123,7 +123,7 @@ module _ (text : List ℕ) (j : Judged) (st : Stated text j.rows) (says : Says j
   started_opens r e = rw e record {
     over = rw says.number;
     admitted = λ z.
-        let admitted = sym says.number ∙ eqb-true (shown j.verdict []).number 0 (not-false _ z) in
+        let admitted = sym says.number ∙ eqb-true (shown_of j.opinion).number 0 (not-false _ z) in
         let g = good_fresh (rows_in row_limit (lines_of text)) admitted no_session in
         let same = st.rows in
         record {

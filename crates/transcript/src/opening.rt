@@ -8,7 +8,7 @@ use crate::rows::{Rows, read_rows};
 use crate::step::Play;
 use session::Session;
 use session::start::start_by;
-use table::Verdict;
+use table::{Judgement, Refusal};
 
 // What the lines up to a place of the text have led to.
 #[derive(Clone, Copy)]
@@ -19,11 +19,11 @@ pub struct State {
     pub at: usize,
 }
 
-// The table of a text, the verdict on it, and how many bytes are written.
+// The table of a text, the opinion on it, and how many bytes are written.
 #[derive(Clone, Copy)]
 pub struct Judged {
     pub rows: Rows,
-    pub verdict: Verdict,
+    pub opinion: Result<Judgement, Refusal>,
     pub end: usize,
 }
 
@@ -36,13 +36,12 @@ pub fn judge(text: &[u8], out: &mut [u8]) -> Judged
     let words = rows.words;
     let count = rows.count;
     let e = 3 * count;
-    let judgement = table::opinion(&words[..e]);
-    let end = report::put_opinion(out, 0, judgement, count);
-    let verdict = judgement.verdict;
-    Judged { rows, verdict, end }
+    let opinion = table::opinion(&words[..e]);
+    let end = report::put_opinion(out, 0, opinion, count);
+    Judged { rows, opinion, end }
 }
 
-// Where the calls start. Output has ended where the table is refused. Internal: the verdict is that on the rows.
+// Where the calls start. Output has ended where the table is refused. Internal: the opinion is that on the rows.
 pub fn started(j: Judged) -> State
     requires { Startable j }
     ensures { result ≡ started_by j }
@@ -52,15 +51,13 @@ pub fn started(j: Judged) -> State
     let count = rows.count;
     let e = 3 * count;
     let line = (count as u64) + 1;
-    let verdict = j.verdict;
-    let n = table::shown(verdict);
-    let session = start_by(Session::none(), &words[..e], verdict);
+    let session = start_by(Session::none(), &words[..e], j.opinion);
     let play = Play {
         from: 0,
         to: 0,
         line,
         end: j.end,
-        over: n.number != 0,
+        over: j.opinion.is_err(),
     };
     State {
         session,

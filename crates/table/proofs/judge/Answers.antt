@@ -18,5 +18,5 @@ returns-then-is_none c = search (rules, judge_cases)
 pub returns-then-b-2 : goal.returns-then-b-2
 returns-then-b-2 c = search (rules, judge_cases)
 
-pub returns : goal.returns
-returns c = search (rules, judge_cases)
+pub returns-else-b-2 : goal.returns-else-b-2
+returns-else-b-2 c = search (rules, judge_cases)
