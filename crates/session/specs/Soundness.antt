@@ -1,5 +1,5 @@
 -- The code that decides soundness, row by row (docs/SPECIFICATION.md §5.2). Assumes nothing.
-use Rattle.std.specs.Prelude.{Option, MatchOption, ℕ, ◌+◌, ◌-◌, ◌≤◌, ◌<◌, ◌≡◌, Bool, true, false, not, ◌&&◌, ◌||◌, cond, List, leb, ltb, eqb, length, get_or}
+use Rattle.std.specs.Prelude.{Option, Some, None, MatchOption, ℕ, ◌+◌, ◌-◌, ◌≤◌, ◌<◌, ◌≡◌, Bool, true, false, not, ◌&&◌, ◌||◌, cond, List, leb, ltb, eqb, length, get_or}
 use Rattle.std.proofs.Math.Path.{sym}
 use Rattle.std.proofs.Common.{ap, ◌∙◌, arith}
 use Rattle.std.proofs.lemmas.Bool.{false≢true}

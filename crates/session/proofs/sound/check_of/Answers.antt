@@ -17,13 +17,13 @@ slice_bounds-kind_of-end c =
     let e : length c.args.s.words ≡ 48 = search rules in
     sym (length-take-le _ _ (omega arith))
 
-pub returns-then-k-eq0 : goal.returns-then-k-eq0
+pub returns-in_err-k : goal.returns-in_err-k
 unfolding rows_of
-returns-then-k-eq0 c = search (rules, check_cases)
+returns-in_err-k c = search (rules, check_cases)
 
-pub returns-then-k-s : goal.returns-then-k-s
+pub returns-then-from-s : goal.returns-then-from-s
 unfolding rows_of
-returns-then-k-s c = search (rules, check_cases)
+returns-then-from-s c = search (rules, check_cases)
 
 pub returns-then-s-gt-CLOCK_END : goal.returns-then-s-gt-CLOCK_END
 unfolding rows_of
@@ -33,7 +33,7 @@ pub jobs_sound-requires : goal.jobs_sound-requires
 unfolding rows_of
 jobs_sound-requires c =
     let e : length c.args.s.words ≡ 48 = search rules in
-    search (rules, check_ready)
+    search (rules, check_ready, c.in_ok-k.was)
 
 pub returns-then-not-jobs_sound : goal.returns-then-not-jobs_sound
 unfolding rows_of

@@ -5,8 +5,8 @@ use Rattle.table.proofs.kind.fit_kind.Goals as goal
 pub returns-then-b : goal.returns-then-b
 returns-then-b c = search (rules, kind_fit_cases)
 
-pub returns-in_none-end : goal.returns-in_default
-returns-in_none-end c = search (rules, kind_fit_cases)
+pub returns-in_err-end : goal.returns-in_err-end
+returns-in_err-end c = search (rules, kind_fit_cases)
 
 pub returns-then-is_some : goal.returns-then-is_some
 returns-then-is_some c = search (rules, kind_fit_cases)
