@@ -14,7 +14,7 @@ ghost use Rattle.host.specs.Meter.{meter_reply, shape_of};
 ghost use Rattle.host.specs.Reply.{reply_of, start_reply, answered, judgement_of};
 ghost use Rattle.host.specs.Sound.{sound_number_lem};
 
-use explain::Told;
+use explain::{Told, Untold};
 use meter::{Meter, Shape};
 use session::sound::is_sound;
 use session::start::Started;
@@ -155,29 +155,29 @@ pub extern "C" fn shuffle_is_sound(s: &Session) -> u32
     sound_number(*s)
 }
 
-fn telling(t: Told) -> Reply
+fn telling(t: Result<Told, Untold>) -> Reply
     ensures { result ≡ telling_reply t }
 {
     match t {
-        Told::Text { length, used } => Reply {
+        Ok(told) => Reply {
             number: 0,
-            used,
-            first: length,
+            used: told.used,
+            first: told.length,
             second: 0,
         },
-        Told::Unsound => Reply {
+        Err(Untold::Unsound) => Reply {
             number: 5,
             used: 0,
             first: 0,
             second: 0,
         },
-        Told::InForce(left) => Reply {
+        Err(Untold::InForce(left)) => Reply {
             number: 8,
             used: 0,
             first: left,
             second: 0,
         },
-        Told::Short(n) => Reply {
+        Err(Untold::Short(n)) => Reply {
             number: 15,
             used: 0,
             first: n,
