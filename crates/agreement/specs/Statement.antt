@@ -1,5 +1,5 @@
 -- What is said of explanations (docs/SPECIFICATION.md §11). Definitions only. Assumes nothing.
-use Rattle.std.specs.Prelude.{ℕ, ◌%◌, ◌^◌, ◌≤◌, ◌<◌, ◌≡◌, true, List, ◌∷◌, ◌++◌, length, get_or, take, drop, None, Some}
+use Rattle.std.specs.Prelude.{ℕ, ◌%◌, ◌^◌, ◌≤◌, ◌<◌, ◌≡◌, true, List, ◌∷◌, ◌++◌, length, get_or, take, drop, None, Some, Ok}
 use Rattle.session.specs.declared.Session.{Session}
 use Rattle.session.specs.declared.Answer.TheVariants.{Chosen}
 use Rattle.session.specs.Reading.{waits}
@@ -11,7 +11,7 @@ use Rattle.guarantee.specs.Draws.{AllPassed}
 use Rattle.wording.specs.Explanation.{Fits, no_held}
 use Rattle.wording.specs.Text.{text_of}
 use Rattle.reader.specs.Reading.{reading_of}
-use Rattle.explain.specs.declared.Told.TheVariants.{Text}
+use Rattle.explain.specs.declared.Told.{Told}
 use Rattle.explain.specs.Explain.{held_of, decided_of, explanation_of, explain_of, told_of, buffer_of, shown_told}
 
 -- ---- it agrees with choose
@@ -80,7 +80,7 @@ pub record TextStands (s : Session) (l d : List ℕ) (n : ℕ) : Type 0 where
 
 -- THE TEXT IS THERE, AND NOTHING ELSE IS WRITTEN
 abbrev pub Written : Type 0
-Written = (s : Session) (l d : List ℕ) (n u : ℕ) → Words l → told_of s l (length d) ≡ Text n u → TextStands s l d n
+Written = (s : Session) (l d : List ℕ) (t : Told) → Words l → told_of s l (length d) ≡ Ok t → TextStands s l d t.length
 
 -- A REFUSAL WRITES NOTHING
 abbrev pub RefusedSame : Type 0
@@ -88,5 +88,5 @@ RefusedSame = (s : Session) (l d : List ℕ) → ¬ ((shown_told (told_of s l (l
 
 -- WHAT A READER READS OF THE TEXT IS THE EXPLANATION
 abbrev pub ReadAgain : Type 0
-ReadAgain = (s : Session) (l d : List ℕ) (n u : ℕ) → Words l → told_of s l (length d) ≡ Text n u
-    → reading_of (take n (buffer_of s l d)) ≡ Some (explain_of s l).parts
+ReadAgain = (s : Session) (l d : List ℕ) (t : Told) → Words l → told_of s l (length d) ≡ Ok t
+    → reading_of (take t.length (buffer_of s l d)) ≡ Some (explain_of s l).parts

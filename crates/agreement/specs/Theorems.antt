@@ -1,5 +1,5 @@
 -- An explanation agrees with choose, and its text is there and is read back. Assumes nothing.
-use Rattle.std.specs.Prelude.{ℕ, ◌+◌, ◌≤◌, ◌≡◌, Bool, true, false, List, ◌++◌, ltb, take, Some}
+use Rattle.std.specs.Prelude.{ℕ, ◌+◌, ◌≤◌, ◌≡◌, true, false, List, ◌++◌, ltb, take, Some, Result, Ok, Err, is_ok}
 use Rattle.std.proofs.Math.Path.{sym, ap}
 use Rattle.std.proofs.Common.{◌∙◌, arith}
 use Rattle.std.proofs.lemmas.Bool.{false≢true}
@@ -16,7 +16,8 @@ use Rattle.wording.specs.Theorems.{text_short}
 use Rattle.reader.specs.Reading.{reading_of}
 use Rattle.reader.specs.Theorems.{read_text}
 use Rattle.explain.specs.declared.Told.{Told}
-use Rattle.explain.specs.declared.Told.TheVariants.{Text, Unsound, InForce, Short}
+use Rattle.explain.specs.declared.Untold.{Untold}
+use Rattle.explain.specs.declared.Untold.TheVariants.{Unsound, InForce, Short}
 use Rattle.explain.specs.Explain.{explanation_of, explain_in, explain_of, told_in, told_of, buffer_in, buffer_of}
 use Rattle.agreement.specs.Statement.{AgreesWithChoose, Words, TextStands, Written, RefusedSame, ReadAgain}
 use Rattle.agreement.specs.Fitting.{explanation_fits}
@@ -32,18 +33,10 @@ agrees_with_choose s l =
 
 -- ---- the text
 
--- what a text has: its length, and whether it is one
-abbrev length_in : Told → ℕ
-length_in (Text n u) = n
-length_in Unsound = 0
-length_in (InForce n) = 0
-length_in (Short n) = 0
-
-abbrev is_text : Told → Bool
-is_text (Text n u) = true
-is_text Unsound = false
-is_text (InForce n) = false
-is_text (Short n) = false
+-- the length of a text, 0 where there is none
+abbrev length_in : Result Told Untold → ℕ
+length_in (Ok t) = t.length
+length_in (Err e) = 0
 
 -- where a text of n bytes is told: the session is sound, no choice is in force, and the buffer is long enough
 record Telling (s : Session) (l d : List ℕ) (n : ℕ) : Type 0 where
@@ -52,22 +45,22 @@ record Telling (s : Session) (l d : List ℕ) (n : ℕ) : Type 0 where
   long : ltb (length d) 2048 ≡ false
   size : n ≡ length (text_of (explanation_of s l))
 
-telling : (s : Session) (l d : List ℕ) (n u : ℕ) → told_of s l (length d) ≡ Text n u → Telling s l d n
+telling : (s : Session) (l d : List ℕ) (t : Told) → told_of s l (length d) ≡ Ok t → Telling s l d t.length
 unfolding told_of told_in
-telling s l d n u q =
+telling s l d t q =
     both (sound s)
     (λ e. both (ltb 0 s.span)
-    (λ r. let z : InForce s.span ≡ Text n u = sym (simp (e, r)) ∙ q in absurd (false≢true (ap is_text z)))
+    (λ r. let z : Err (InForce s.span) ≡ Ok t = sym (simp (e, r)) ∙ q in absurd (false≢true (ap is_ok z)))
     (λ r. both (ltb (length d) 2048)
-    (λ b. let z : Short (length d) ≡ Text n u = sym (simp (e, r, b)) ∙ q in absurd (false≢true (ap is_text z)))
+    (λ b. let z : Err (Short (length d)) ≡ Ok t = sym (simp (e, r, b)) ∙ q in absurd (false≢true (ap is_ok z)))
     (λ b.
-    let z : told_of s l (length d) ≡ Text (length (text_of (explanation_of s l))) (used_of s l) = simp (e, r, b) in
+    let z : told_of s l (length d) ≡ Ok (record { length = length (text_of (explanation_of s l)); used = used_of s l }) = simp (e, r, b) in
     record { is_sound = e; idle = r; long = b; size = ap length_in (sym q ∙ z) })))
-    (λ e. let z : Unsound ≡ Text n u = sym (simp e) ∙ q in absurd (false≢true (ap is_text z)))
+    (λ e. let z : Err Unsound ≡ Ok t = sym (simp e) ∙ q in absurd (false≢true (ap is_ok z)))
 
-module _ (s : Session) (l d : List ℕ) (n u : ℕ) (ws : Words l) (q : told_of s l (length d) ≡ Text n u) where
-  is : Telling s l d n
-  is = telling s l d n u q
+module _ (s : Session) (l d : List ℕ) (t : Told) (ws : Words l) (q : told_of s l (length d) ≡ Ok t) where
+  is : Telling s l d t.length
+  is = telling s l d t q
 
   text : List ℕ
   text = text_of (explanation_of s l)
@@ -76,20 +69,20 @@ module _ (s : Session) (l d : List ℕ) (n u : ℕ) (ws : Words l) (q : told_of 
   unfolding text
   short = text_short (explanation_of s l) (explanation_fits s l is.is_sound ws)
 
-  buffer_is : buffer_of s l d ≡ text ++ drop n d
+  buffer_is : buffer_of s l d ≡ text ++ drop t.length d
   unfolding buffer_of buffer_in overlay text
   buffer_is = simp (is.is_sound, is.idle, is.long)
-      (let q : 0 + length (text_of (explanation_of s l)) ≡ n = omega (arith, is.size) in ap (λ (x : ℕ). text_of (explanation_of s l) ++ drop x d) q)
+      (let q : 0 + length (text_of (explanation_of s l)) ≡ t.length = omega (arith, is.size) in ap (λ (x : ℕ). text_of (explanation_of s l) ++ drop x d) q)
 
-  stands : TextStands s l d n
+  stands : TextStands s l d t.length
   unfolding text
   stands = record {
-    text = ap (take n) buffer_is ∙ take_at (text_of (explanation_of s l)) (drop n d) n (sym is.size);
-    rest = ap (drop n) buffer_is ∙ rw is.size (drop-append_seam (text_of (explanation_of s l)) _);
+    text = ap (take t.length) buffer_is ∙ take_at (text_of (explanation_of s l)) (drop t.length d) t.length (sym is.size);
+    rest = ap (drop t.length) buffer_is ∙ rw is.size (drop-append_seam (text_of (explanation_of s l)) _);
     short = omega (arith, is.size, short);
   }
 
-  read_parts : reading_of (take n (buffer_of s l d)) ≡ Some (explain_of s l).parts
+  read_parts : reading_of (take t.length (buffer_of s l d)) ≡ Some (explain_of s l).parts
   unfolding explain_of explain_in
   read_parts =
       ap reading_of stands.text
@@ -97,10 +90,10 @@ module _ (s : Session) (l d : List ℕ) (n u : ℕ) (ws : Words l) (q : told_of 
       ∙ sym (simp (is.is_sound, is.idle))
 
 pub written : Written
-written s l d n u ws q = stands s l d n u ws q
+written s l d t ws q = stands s l d t ws q
 
 pub read_again : ReadAgain
-read_again s l d n u ws q = read_parts s l d n u ws q
+read_again s l d t ws q = read_parts s l d t ws q
 
 pub refused_same : RefusedSame
 unfolding told_of told_in buffer_of buffer_in

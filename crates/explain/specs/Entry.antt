@@ -1,5 +1,5 @@
 -- The entries: the parts of an explanation, and its text (src/lib.rt). Assumes nothing.
-use Rattle.std.specs.Prelude.{ℕ, ◌≤◌, ◌<◌, ◌≡◌, true, false, List}
+use Rattle.std.specs.Prelude.{ℕ, ◌≤◌, ◌<◌, ◌≡◌, true, false, List, Result, Ok, Err}
 use Rattle.std.proofs.Math.Path.{sym, ap}
 use Rattle.std.proofs.Common.{◌∙◌, arith}
 use Rattle.std.proofs.Math.ListN.{length}
@@ -17,7 +17,8 @@ use Rattle.wording.specs.Text.{text_of}
 use Rattle.explain.specs.declared.parts.Account.{Account}
 use Rattle.explain.specs.declared.Explained.{Explained}
 use Rattle.explain.specs.declared.Told.{Told}
-use Rattle.explain.specs.declared.Told.TheVariants.{Text, Unsound as NotSound, InForce as Running, Short}
+use Rattle.explain.specs.declared.Untold.{Untold}
+use Rattle.explain.specs.declared.Untold.TheVariants.{Unsound as NotSound, InForce as Running, Short}
 use Rattle.explain.specs.Explain.{explanation_of, explain_in, explain_of, told_in, buffer_in, told_of, buffer_of}
 use Rattle.explain.specs.Account.{account_of_lem, waiting_few, held_length}
 
@@ -58,7 +59,7 @@ module _ (s : Session) (l : List ℕ) where
 
     -- what is said of it, and the buffer
     module _ (d b : List ℕ) (r : ℕ) (z : s.span ≤ 0) (h : 2048 ≤ length d) (w : Wrote 1951 (text_of (held_in a.parts)) d b 0 r) where
-      pub said_text : Text r a.used ≡ told_in s l (length d)
+      pub said_text : Ok (record { length = r; used = a.used }) ≡ told_in s l (length d)
       unfolding told_in account_of_lem
       said_text =
           let p : r ≡ length (text_of (explanation_of s l)) = omega (arith, (text_put d b 0 r w).place) in
@@ -70,7 +71,7 @@ module _ (s : Session) (l : List ℕ) where
       left_text = (text_put d b 0 r w).buffer ∙ sym (simp (le-ltb 0 s.span z, le-ltb (length d) 2048 h))
 
   module _ (d : List ℕ) where
-    pub said_running : 0 < s.span → Running s.span ≡ told_in s l (length d)
+    pub said_running : 0 < s.span → Err (Running s.span) ≡ told_in s l (length d)
     unfolding told_in
     said_running h = sym (simp (lt-ltb 0 s.span h))
 
@@ -78,7 +79,7 @@ module _ (s : Session) (l : List ℕ) where
     unfolding buffer_in
     left_running h = sym (simp (lt-ltb 0 s.span h))
 
-    pub said_short : s.span ≤ 0 → length d < 2048 → Short (length d) ≡ told_in s l (length d)
+    pub said_short : s.span ≤ 0 → length d < 2048 → Err (Short (length d)) ≡ told_in s l (length d)
     unfolding told_in
     said_short z h = sym (simp (le-ltb 0 s.span z, lt-ltb (length d) 2048 h))
 
@@ -86,7 +87,7 @@ module _ (s : Session) (l : List ℕ) where
     unfolding buffer_in
     left_short z h = sym (simp (le-ltb 0 s.span z, lt-ltb (length d) 2048 h))
 
-    pub said_sound : (r : Told) → sound s ≡ true → r ≡ told_in s l (length d) → r ≡ told_of s l (length d)
+    pub said_sound : (r : Result Told Untold) → sound s ≡ true → r ≡ told_in s l (length d) → r ≡ told_of s l (length d)
     unfolding told_of
     said_sound r t e = e ∙ sym (simp t)
 
@@ -94,7 +95,7 @@ module _ (s : Session) (l : List ℕ) where
     unfolding buffer_of
     left_sound b t e = e ∙ sym (simp t)
 
-    pub said_unsound : sound s ≡ false → NotSound ≡ told_of s l (length d)
+    pub said_unsound : sound s ≡ false → Err NotSound ≡ told_of s l (length d)
     unfolding told_of
     said_unsound f = sym (simp f)
 

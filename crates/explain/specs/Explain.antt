@@ -1,6 +1,6 @@
 -- A choice explained: what choose answers on the same session and words, and what led to it (docs/SPECIFICATION.md §11).
 -- Definitions only. Assumes nothing.
-use Rattle.std.specs.Prelude.{ℕ, zero, suc, cond, List, [], ◌∷◌, ◌++◌, ltb, eqb, length, None, Option, Some}
+use Rattle.std.specs.Prelude.{ℕ, zero, suc, cond, List, [], ◌∷◌, ◌++◌, ltb, eqb, length, None, Option, Some, Result, Ok, Err}
 use Rattle.decimal.specs.Buffer.{overlay}
 use Rattle.session.specs.declared.Session.{Session}
 use Rattle.session.specs.declared.Answer.{Answer}
@@ -17,7 +17,8 @@ use Rattle.wording.specs.Explanation.{Explanation, parts_of, no_parts}
 use Rattle.wording.specs.Text.{text_of}
 use Rattle.explain.specs.declared.Explained.{Explained}
 use Rattle.explain.specs.declared.Told.{Told}
-use Rattle.explain.specs.declared.Told.TheVariants.{Text, Unsound as NotSound, InForce as Running, Short}
+use Rattle.explain.specs.declared.Untold.{Untold}
+use Rattle.explain.specs.declared.Untold.TheVariants.{Unsound as NotSound, InForce as Running, Short}
 
 -- ---- the explanation
 
@@ -85,10 +86,10 @@ abbrev pub buffer_least : ℕ
 buffer_least = 2048
 
 -- what is said of a text for a buffer of n bytes: its length, and the words that choose uses; or 8, then 15
-unfoldable pub told_in : Session → List ℕ → ℕ → Told
+unfoldable pub told_in : Session → List ℕ → ℕ → Result Told Untold
 told_in s l n =
-    cond (ltb 0 s.span) (Running s.span)
-    (cond (ltb n buffer_least) (Short n) (Text (length (text_of (explanation_of s l))) (used_of s l)))
+    cond (ltb 0 s.span) (Err (Running s.span))
+    (cond (ltb n buffer_least) (Err (Short n)) (Ok (record { length = length (text_of (explanation_of s l)); used = used_of s l })))
 
 -- the buffer d afterwards: the text at its start, and the rest as it was; where it is refused, all as it was
 unfoldable pub buffer_in : Session → List ℕ → List ℕ → List ℕ
@@ -96,24 +97,25 @@ buffer_in s l d =
     cond (ltb 0 s.span) d (cond (ltb (length d) buffer_least) d (overlay d 0 (text_of (explanation_of s l))))
 
 -- 5 comes first
-unfoldable pub told_of : Session → List ℕ → ℕ → Told
-told_of s l n = cond (sound s) (told_in s l n) NotSound
+unfoldable pub told_of : Session → List ℕ → ℕ → Result Told Untold
+told_of s l n = cond (sound s) (told_in s l n) (Err NotSound)
 
 unfoldable pub buffer_of : Session → List ℕ → List ℕ → List ℕ
 buffer_of s l d = cond (sound s) (buffer_in s l d) d
 
 -- ---- in numbers
 
--- the number of what is said of a text, 0 where there is one, and its two values
-abbrev pub shown_told : Told → Shown
-shown_told (Text n used) = three 0 n 0
-shown_told NotSound = three 5 0 0
-shown_told (Running left) = three 8 left 0
-shown_told (Short n) = three 15 n 0
+-- the number of a refusal, and its two values; and of what is said of a text, 0 where there is one
+abbrev pub shown_untold : Untold → Shown
+shown_untold NotSound = three 5 0 0
+shown_untold (Running left) = three 8 left 0
+shown_untold (Short n) = three 15 n 0
+
+abbrev pub shown_told : Result Told Untold → Shown
+shown_told (Ok t) = three 0 t.length 0
+shown_told (Err e) = shown_untold e
 
 -- the words that choose uses; none where it is refused
-abbrev pub used_told : Told → ℕ
-used_told (Text n used) = used
-used_told NotSound = 0
-used_told (Running left) = 0
-used_told (Short n) = 0
+abbrev pub used_told : Result Told Untold → ℕ
+used_told (Ok t) = t.used
+used_told (Err e) = 0

@@ -29,10 +29,16 @@ pub struct Explained {
     pub parts: Parts,
 }
 
-// What is said of a text: its length, and how many words choose uses; or the refusal.
+// What is said of a text: its length, and how many words choose uses.
 #[derive(Clone, Copy)]
-pub enum Told {
-    Text { length: u64, used: u64 },
+pub struct Told {
+    pub length: u64,
+    pub used: u64,
+}
+
+// Why there is no text.
+#[derive(Clone, Copy)]
+pub enum Untold {
     // 5: the session is not sound.
     Unsound,
     // 8: a choice is in force; its ticks left.
@@ -81,34 +87,33 @@ pub fn explain(s: Session, words: &[u32]) -> Explained
 }
 
 // `tell` of a sound session, by its brittle rows.
-fn tell_by(s: Session, brittle: [bool; 16], words: &[u32], out: &mut [u8]) -> Told
+fn tell_by(s: Session, brittle: [bool; 16], words: &[u32], out: &mut [u8]) -> Result<Told, Untold>
     requires { (sound s ≡ true) × Marks s brittle }
     ensures { (result ≡ told_in s words.now (length out.old)) × (out.new ≡ buffer_in s words.now out.old) }
 {
     let span = s.span;
     if 0 < span {
-        return Told::InForce(span);
+        return Err(Untold::InForce(span));
     }
     let n = out.len();
     if n < LEAST {
-        return Told::Short(n as u64);
+        return Err(Untold::Short(n as u64));
     }
     let a = account_of(s, brittle, words);
-    let parts = a.parts;
-    let e = put_text(out, 0, parts);
-    Told::Text {
+    let e = put_text(out, 0, a.parts);
+    Ok(Told {
         length: e as u64,
         used: a.used,
-    }
+    })
 }
 
 // Writes the text of the explanation to the start of `out`. A buffer of fewer than 2,048 bytes is refused; where anything is
 // refused, nothing is written.
-pub fn tell(s: Session, words: &[u32], out: &mut [u8]) -> Told
+pub fn tell(s: Session, words: &[u32], out: &mut [u8]) -> Result<Told, Untold>
     ensures { (result ≡ told_of s words.now (length out.old)) × (out.new ≡ buffer_of s words.now out.old) }
 {
     let Some(brittle) = check_of(s) else {
-        return Told::Unsound;
+        return Err(Untold::Unsound);
     };
     tell_by(s, brittle, words, out)
 }
@@ -121,6 +126,5 @@ pub fn put_sound(out: &mut [u8], at: usize, s: Session, words: &[u32]) -> usize
 {
     let brittle = brittle_rows(s);
     let a = account_of(s, brittle, words);
-    let parts = a.parts;
-    put_text(out, at, parts)
+    put_text(out, at, a.parts)
 }

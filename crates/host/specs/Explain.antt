@@ -1,13 +1,14 @@
 -- What is said of an explanation's text, in numbers (docs/SPECIFICATION.md §9). Assumes nothing.
-use Rattle.std.specs.Prelude.{ℕ, ◌≡◌}
+use Rattle.std.specs.Prelude.{ℕ, ◌≡◌, Result, Ok, Err}
 use Rattle.explain.specs.declared.Told.{Told}
-use Rattle.explain.specs.declared.Told.TheVariants.{Text, Unsound, InForce, Short}
+use Rattle.explain.specs.declared.Untold.{Untold}
+use Rattle.explain.specs.declared.Untold.TheVariants.{Unsound, InForce, Short}
 use Rattle.explain.specs.Explain.{shown_told, used_told}
 use Rattle.host.specs.declared.Reply.{Reply}
 
 -- ---- definitions
 
-unfoldable pub telling_reply : Told → Reply
+unfoldable pub telling_reply : Result Told Untold → Reply
 telling_reply t = record {
   number = (shown_told t).number;
   used = used_told t;
@@ -17,20 +18,20 @@ telling_reply t = record {
 
 -- ---- the code
 
-module _ (t : Told) where
-  pub telling_text : (n u : ℕ) → t ≡ Text n u → record { number = 0; used = u; first = n; second = 0 } ≡ telling_reply t
+module _ (t : Result Told Untold) where
+  pub telling_text : (x : Told) → t ≡ Ok x → record { number = 0; used = x.used; first = x.length; second = 0 } ≡ telling_reply t
   unfolding telling_reply
-  telling_text n u e = rw e
+  telling_text x e = rw e
 
-  pub telling_unsound : t ≡ Unsound → record { number = 5; used = 0; first = 0; second = 0 } ≡ telling_reply t
+  pub telling_unsound : t ≡ Err Unsound → record { number = 5; used = 0; first = 0; second = 0 } ≡ telling_reply t
   unfolding telling_reply
   telling_unsound e = rw e
 
-  pub telling_running : (n : ℕ) → t ≡ InForce n → record { number = 8; used = 0; first = n; second = 0 } ≡ telling_reply t
+  pub telling_running : (n : ℕ) → t ≡ Err (InForce n) → record { number = 8; used = 0; first = n; second = 0 } ≡ telling_reply t
   unfolding telling_reply
   telling_running n e = rw e
 
-  pub telling_short : (n : ℕ) → t ≡ Short n → record { number = 15; used = 0; first = n; second = 0 } ≡ telling_reply t
+  pub telling_short : (n : ℕ) → t ≡ Err (Short n) → record { number = 15; used = 0; first = n; second = 0 } ≡ telling_reply t
   unfolding telling_reply
   telling_short n e = rw e
 

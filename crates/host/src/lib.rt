@@ -15,7 +15,7 @@ ghost use Rattle.host.specs.Meter.{meter_reply, shape_of};
 ghost use Rattle.host.specs.Reply.{told, reply_of, opening_reply, answered, judgement_of};
 ghost use Rattle.host.specs.Sound.{sound_number_lem};
 
-use explain::Told;
+use explain::{Told, Untold};
 use meter::{BadShape, Shape};
 use session::sound::is_sound;
 use session::{Arrival, Session};
@@ -70,30 +70,30 @@ impl From<lent::Opening> for Reply {
     }
 }
 
-impl From<Told> for Reply {
+impl From<Result<Told, Untold>> for Reply {
     ghost from_gives = { λ t n. n ≡ telling_reply t };
 
-    fn from(t: Told) -> Reply {
+    fn from(t: Result<Told, Untold>) -> Reply {
         match t {
-            Told::Text { length, used } => Reply {
+            Ok(told) => Reply {
                 number: 0,
-                used,
-                first: length,
+                used: told.used,
+                first: told.length,
                 second: 0,
             },
-            Told::Unsound => Reply {
+            Err(Untold::Unsound) => Reply {
                 number: 5,
                 used: 0,
                 first: 0,
                 second: 0,
             },
-            Told::InForce(left) => Reply {
+            Err(Untold::InForce(left)) => Reply {
                 number: 8,
                 used: 0,
                 first: left,
                 second: 0,
             },
-            Told::Short(n) => Reply {
+            Err(Untold::Short(n)) => Reply {
                 number: 15,
                 used: 0,
                 first: n,

@@ -11,7 +11,7 @@ ghost use Rattle.session.specs.Batch.{after_all, answered_all};
 ghost use Rattle.explain.specs.Explain.{told_of, buffer_of};
 ghost use Rattle.lent.specs.Reply.{reply_of, opening_of};
 
-use explain::Told;
+use explain::{Told, Untold};
 use session::start::Started;
 use session::{Answer, Arrival, Outcome, Session};
 use table::Verdict;
@@ -89,7 +89,7 @@ pub fn start(s: &mut Session, words: &[u32]) -> Opening
 }
 
 // The text of what choose answers on these words, and why, in a buffer of the host. The record is only read.
-pub fn explain(s: &Session, words: &[u32], out: &mut [u8]) -> Told
+pub fn explain(s: &Session, words: &[u32], out: &mut [u8]) -> Result<Told, Untold>
     ensures { (result ≡ told_of s.now words.now (length out.old)) × (out.new ≡ buffer_of s.now words.now out.old) }
 {
     explain::tell(*s, words, out)

@@ -36,6 +36,7 @@ fn put_choice(rt: &impl Print, chosen: u64, decided: Option<u64>) -> io::Result<
     print!(rt; "C\t{chosen}\t{given}\t{word}\n")
 }
 
+// No `From`: the numbers are this program's, and `Cause` is another crate's type.
 fn number_of(cause: Cause) -> u64 {
     match cause {
         Cause::Remaining => 1,

@@ -28,9 +28,11 @@ pub enum Cause {
 // the chosen row, 16 for idle; the deciding word or none; the span, and what set it. The places past `count` are all 0.
 #[derive(Clone, Copy)]
 pub struct Parts {
+    // An array and its count: no heap, fixed memory.
     pub jobs: [Held; 16],
     pub count: usize,
     pub brittle: Option<u64>,
+    // The C interface has 16 for idle.
     pub chosen: u64,
     pub decided: Option<u64>,
     pub span: u64,
