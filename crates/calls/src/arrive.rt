@@ -1,8 +1,10 @@
 // A job of a row arrives (docs/SPECIFICATION.md §5.3).
-ghost use Rattle.std.specs.Prelude.{◌≡◌, true, not, ◌+◌, ◌≤◌, ◌<◌};
+ghost use Rattle.std.specs.Prelude.{◌≡◌, true, not, ◌+◌, ◌≤◌, ◌<◌, ⊤};
 ghost use Rattle.bounded.specs.Tests.{gate};
 ghost use Rattle.bounded.specs.Within.{Within};
-ghost use Rattle.table.specs.Inverse.{Inverses, Tame};
+ghost use Rattle.edf.specs.Demand.{TaskSet};
+ghost use Rattle.table.specs.Rows.{tasks_of, Fit};
+ghost use Rattle.table.specs.Inverse.{Inverses, Ready, Tame};
 ghost use Rattle.session.specs.Reading.{clock_end, tasks};
 ghost use Rattle.session.specs.Sound.{sound};
 ghost use Rattle.session.specs.Calls.{arrive_in, arrive_of};
@@ -73,10 +75,39 @@ fn arriving(k: Task, clock: u64, brittle: bool, asked: u64) -> Job
     }
 }
 
-// `arrive` of a sound session, by its brittle rows, of which only this one's mark is looked at. One pass over the rows, and a
-// division for each. Only q is indexed, so that the record is not copied once more to read it.
-fn arrive_marked(s: Session, brittle: [bool; 16], row: u64) -> Outcome
-    requires { (sound s ≡ true) × MarkOf s brittle row }
+// How a row of a table is prepared: by the inverses of all periods, which the rows share, or by a division of its own.
+trait Prepares: Copy {
+    // Whether it serves for the table.
+    ghost serves: { Self → TaskSet → Type 0 };
+
+    fn prepared(self, rows: &[u32], i: usize) -> Prepared
+        requires { Fit (tasks_of rows.now) × serves self (tasks_of rows.now) × (i < (tasks_of rows.now).rows) }
+        ensures { Ready (tasks_of rows.now) i result };
+}
+
+#[derive(Clone, Copy)]
+struct Divisions;
+
+impl Prepares for Divisions {
+    ghost serves = { λ d τ. ⊤ };
+
+    fn prepared(self, rows: &[u32], i: usize) -> Prepared {
+        prepare_alone(rows, i)
+    }
+}
+
+impl Prepares for &[u64; 16] {
+    ghost serves = { λ v τ. Inverses τ v.now };
+
+    fn prepared(self, rows: &[u32], i: usize) -> Prepared {
+        prepare(rows, self, i)
+    }
+}
+
+// `arrive` of a sound session, by its brittle rows, of which only this one's mark is looked at. One pass over the rows. Only q is
+// indexed, so that the record is not copied once more to read it.
+fn arrive_with<P: Prepares>(s: Session, by: P, brittle: [bool; 16], row: u64) -> Outcome
+    requires { (sound s ≡ true) × P.serves by (tasks s) × MarkOf s brittle row }
     ensures { result ≡ arrive_in s row }
 {
     let count = s.count;
@@ -98,7 +129,7 @@ fn arrive_marked(s: Session, brittle: [bool; 16], row: u64) -> Outcome
     let n = looked_at(brittle[i], count as usize);
     let mut asked: u64 = 0;
     for j in 0..n {
-        let p = prepare_alone(rows, j);
+        let p = by.prepared(rows, j);
         asked += charge(p, j == i, q.jobs[j], clock, k.deadline);
     }
     let job = arriving(k, clock, brittle[i], asked);
@@ -113,45 +144,21 @@ fn arrive_marked(s: Session, brittle: [bool; 16], row: u64) -> Outcome
     }
 }
 
-// `arrive_marked` with the inverses of the table's periods and no division, for callers who can prove that the session is sound and
-// that these are its table's. It is a second body, since the compiler puts a function into its only caller: with one body for
-// both, a checked arrive takes a copy of the record more (docs/PERFORMANCE.md).
+// With a division for each row.
+fn arrive_marked(s: Session, brittle: [bool; 16], row: u64) -> Outcome
+    requires { (sound s ≡ true) × MarkOf s brittle row }
+    ensures { result ≡ arrive_in s row }
+{
+    arrive_with(s, Divisions, brittle, row)
+}
+
+// With the inverses of the table's periods and no division, for callers who can prove that the session is sound and that these are
+// its table's.
 pub fn arrive_by(s: Session, inverses: &[u64; 16], brittle: [bool; 16], row: u64) -> Outcome
     requires { (sound s ≡ true) × Inverses (tasks s) inverses.now × MarkOf s brittle row }
     ensures { result ≡ arrive_in s row }
 {
-    let count = s.count;
-    if count <= row {
-        return refuse(s, Answer::NoRow(row));
-    }
-    let i = row as usize;
-    let tick = s.clock;
-    let mut t = s;
-    let old = t.jobs[i];
-    if tick < old.next {
-        let next = old.next;
-        return refuse(s, Answer::TooEarly { row, next });
-    }
-    let words = t.words;
-    let e = 3 * (count as usize);
-    let rows = &words[..e];
-    let k = fit_row(rows, i);
-    let n = looked_at(brittle[i], count as usize);
-    let mut asked: u64 = 0;
-    for j in 0..n {
-        let p = prepare(rows, inverses, j);
-        asked += charge(p, j == i, t.jobs[j], tick, k.deadline);
-    }
-    let job = arriving(k, tick, brittle[i], asked);
-    t.jobs[i] = job;
-    t.chosen = 0;
-    t.span = 0;
-    let due = job.due;
-    Outcome {
-        answer: Answer::Arrived { row, due },
-        used: 0,
-        session: t,
-    }
+    arrive_with(s, inverses, brittle, row)
 }
 
 // The inverses of the periods of a session's table, which all its arrivals can share: a division for each row. For callers who
