@@ -8,11 +8,11 @@ use Rattle.guarantee.specs.Statement.{outcome_of, HostCall, single, batch, sessi
 use Rattle.guarantee.specs.Keeps.{never_five}
 use Rattle.guarantee.proofs.GuaranteeLaws.{no_job_late}
 use Rattle.guarantee.proofs.RespondsLaws.{how_late}
-use Rattle.host.specs.Reply.{told}
+use Rattle.host.specs.Reply.{in_numbers}
 use Rattle.host.specs.Forms.{Form, by_value, lent, exported, answer_in, events_by_form, events_in, NoJobLateAnyForm, HowLateAnyForm, NeverFiveAnyForm}
 
 same_answer : (f : Form) (s : Session) (c : Call) → answer_in f s c ≡ shown (outcome_of s c).answer
-unfolding told
+unfolding in_numbers
 same_answer by_value s c = refl
 same_answer lent s c = refl
 same_answer exported s c = refl

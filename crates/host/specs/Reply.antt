@@ -17,12 +17,17 @@ use Rattle.host.specs.declared.Judgement.{Judgement}
 -- ---- definitions
 
 -- the reply of a lent call in numbers: its number, words used and two values
-unfoldable pub told : lending.Reply → Reply
-told r = record { number = (shown r.answer).number; used = r.used; first = (shown r.answer).first; second = (shown r.answer).second }
+unfoldable pub in_numbers : lending.Reply → Reply
+in_numbers r = record {
+  number = (shown r.answer).number;
+  used = r.used;
+  first = (shown r.answer).first;
+  second = (shown r.answer).second;
+}
 
 -- and of an outcome
 abbrev pub reply_of : Outcome → Reply
-reply_of o = told (lent.reply_of o)
+reply_of o = in_numbers (lent.reply_of o)
 
 -- an opinion's number and two values; it uses no word
 abbrev pub answered : Opinion → Reply
@@ -38,10 +43,10 @@ judgement_of o = record { number = o.number; first = o.first; second = o.second;
 
 -- ---- the code
 
-pub told_is : (r : lending.Reply) (n : Numbers) → Shows (shown r.answer) n
-    → record { number = n.number; used = r.used; first = n.first; second = n.second } ≡ told r
-unfolding told
-told_is r n h = rw (h.number, h.first, h.second)
+pub in_numbers_is : (r : lending.Reply) (n : Numbers) → Shows (shown r.answer) n
+    → record { number = n.number; used = r.used; first = n.first; second = n.second } ≡ in_numbers r
+unfolding in_numbers
+in_numbers_is r n h = rw (h.number, h.first, h.second)
 
 pub opening_reply_is : (o : lending_start.Opening) (n : verdict.Numbers) → opinion.Shows o.verdict n
     → record { number = n.number; used = 0; first = n.first; second = n.second } ≡ opening_reply o

@@ -12,7 +12,7 @@ ghost use Rattle.explain.specs.Explain.{told_of, buffer_of};
 ghost use Rattle.meter.specs.Meter.{measure_of};
 ghost use Rattle.host.specs.Explain.{telling_reply};
 ghost use Rattle.host.specs.Meter.{meter_reply, shape_of};
-ghost use Rattle.host.specs.Reply.{told, reply_of, opening_reply, answered, judgement_of};
+ghost use Rattle.host.specs.Reply.{in_numbers, reply_of, opening_reply, answered, judgement_of};
 ghost use Rattle.host.specs.Sound.{sound_number_lem};
 
 use explain::{Told, Untold};
@@ -20,8 +20,8 @@ use meter::{BadShape, Shape};
 use session::sound::is_sound;
 use session::{Arrival, Session};
 
-// An answer in numbers (`shown` gives them): its number, 0 where the call is accepted; the words that a choice used; and
-// two values.
+// An answer in numbers: its number, 0 where the call is accepted; the words that a choice used; and two values. The number
+// stays a `u64`: the C interface.
 #[repr(C)]
 #[derive(Clone, Copy)]
 pub struct Reply {
@@ -31,7 +31,7 @@ pub struct Reply {
     pub second: u64,
 }
 
-// An opinion in numbers: its number, 0 where the table is admitted; two values; and V of each row.
+// An opinion in numbers: its number, 0 where the table is admitted; two values; and V of each row. The C interface too.
 #[repr(C)]
 #[derive(Clone, Copy)]
 pub struct Judgement {
@@ -42,7 +42,7 @@ pub struct Judgement {
 }
 
 impl From<lent::Reply> for Reply {
-    ghost from_gives = { λ r n. n ≡ told r };
+    ghost from_gives = { λ r n. n ≡ in_numbers r };
 
     fn from(r: lent::Reply) -> Reply {
         let n = session::show(r.answer);
@@ -191,6 +191,7 @@ pub extern "C" fn shuffle_finish(s: &mut Session) -> Reply
     Reply::from(lent::finish(s))
 }
 
+// 1 or 0, and no `bool`: the C interface.
 #[unsafe(no_mangle)]
 pub extern "C" fn shuffle_is_sound(s: &Session) -> u32
     ensures { result ≡ sound_number_lem s.now }
@@ -206,7 +207,7 @@ pub extern "C" fn shuffle_explain(s: &Session, words: &[u32], out: &mut [u8]) ->
     Reply::from(lent::explain(s, words, out))
 }
 
-// How mixed a schedule is: stretches one after another, a row number per tick.
+// How mixed a schedule is: stretches one after another, a row number per tick. Four numbers, and no `Shape`: the C interface.
 #[unsafe(no_mangle)]
 pub extern "C" fn shuffle_meter(
     rows: &[u8],

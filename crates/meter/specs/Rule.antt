@@ -1,14 +1,11 @@
 -- The rule of the meter's input, as facts. Assumes nothing.
-use Rattle.std.specs.Prelude.{ℕ, ◌*◌, ◌≤◌, ◌<◌, ◌≡◌, refl, Bool, true, false, List, leb, eqb, length, Result, Ok, Err}
+use Rattle.std.specs.Prelude.{ℕ, ◌*◌, ◌≤◌, ◌<◌, ◌≡◌, Bool, true, false, List, leb, eqb, length, Ok, Err}
 use Rattle.std.proofs.Math.Path.{sym}
-use Rattle.std.proofs.Common.{ap, ◌∙◌, mul-le-mul, mul-le-mul_right, arith, Fits}
-use Rattle.std.proofs.Math.Bool.{and-false}
-use Rattle.std.proofs.lemmas.Bool.{false≢true}
+use Rattle.std.proofs.Common.{◌∙◌, mul-le-mul, mul-le-mul_right, arith, Fits}
 use Rattle.std.specs.Int.{w64}
-use borrow.Author.Tests.{le-leb, lt-leb, leb-true, eqb-true}
+use borrow.Author.Tests.{le-leb, leb-true, eqb-true}
 use Rattle.bounded.specs.Tests.{both, and-true}
 use Rattle.meter.specs.declared.Shape.{Shape}
-use Rattle.meter.specs.declared.BadShape.{BadShape}
 use Rattle.meter.specs.Meter.{meter_of, fits, bad_shape, measure_of}
 
 pub record Shaped (a : List ℕ) (h : Shape) : Type 0 where

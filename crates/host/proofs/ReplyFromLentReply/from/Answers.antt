@@ -1,6 +1,6 @@
-use Rattle.host.specs.Reply.{told_is}
+use Rattle.host.specs.Reply.{in_numbers_is}
 use borrow.Author.Rules.{rules}
 use Rattle.host.proofs.ReplyFromLentReply.from.Goals as goal
 
 pub returns : goal.returns
-returns c = search (rules, told_is)
+returns c = search (rules, in_numbers_is)

@@ -8,9 +8,6 @@ loop-j-init c = search (rules, alike_laws)
 pub like-c-requires : goal.like-c-requires
 like-c-requires c = search (rules, alike_laws)
 
-pub overflow_add-c : goal.overflow_add-c
-overflow_add-c c = search (rules, alike_laws)
-
 pub loop-j-preserved : goal.loop-j-preserved
 loop-j-preserved c = search (rules, alike_laws)
 
