@@ -22,7 +22,7 @@ use Rattle.workload.specs.Trial.{Trial, trial_lines, line_by_lem, line_for, give
 use Rattle.workload.specs.Loose.{count_few}
 use Rattle.workload.specs.Stands.{Stand, rows}
 use Rattle.workload.proofs.AcceptedLaws.{next_line, first_stand}
-use Rattle.workload.specs.Play.{trial_in, Went, Held, stands, Playing, play_rows, play_sound, play_ready, play_room, play_done, held}
+use Rattle.workload.specs.Play.{trial_in, Ready, Went, Held, stands, Playing, play_rows, play_sound, play_ready, play_room, play_done, held}
 
 pub play_start : (seed start rows left : ℕ) (s : Session) (first : List ℕ) → s ≡ session_of (table_of seed) → rows ≡ row_count seed
     → left ≡ 500 - rows → start + 65 * (trial_lines - row_count seed) ≤ length first
@@ -59,11 +59,11 @@ module _ (seed start : ℕ) (first : List ℕ) (s : Session) (p : Progress) (wor
           let k : left ≡ suc (left - 1) = omega arith in
           ap (λ (m : ℕ). input_text (lines_from m x)) k ∙ rw (is, onward_is)
 
-      pub play_next : Playing seed start first t r words' out' end' (left - 1)
-      play_next =
+      play_next : (rest : ℕ) → rest ≡ left - 1 → Playing seed start first t r words' out' end' rest
+      play_next rest same =
           let fits : end + length (input_line y) ≤ length out = omega (arith, (play_room seed start first s p words out end left now more), w.short) in
           let n = next_line seed x now.done (stands now.stand) (omega (arith, now.lines)) in
-          record {
+          rw same record {
             done = line_for x ∷ now.done;
             stand = subst (λ (z : Trial). Held seed z (line_for x ∷ now.done)) (sym onward_is) (held n.stand);
             lines = omega (arith, now.lines);
@@ -75,4 +75,22 @@ module _ (seed start : ℕ) (first : List ℕ) (s : Session) (p : Progress) (wor
             owing = owing_next _ _ _ _ _ _ now.owing 65 (input_line y) (input_text (lines_from (left - 1) (trial_in t r words'))) out' end' owed fits w;
           }
 
-pub ruleset play_laws = (play_start, play_rows, play_sound, play_ready, play_room, play_next, play_done)
+-- at turn k of the loop
+module _ (seed start : ℕ) (first : List ℕ) (s : Session) (p : Progress) (words out : List ℕ) (end k : ℕ)
+    (now : Playing seed start first s p words out end (500 - k)) where
+  pub turn_done : 500 ≤ k → Wrote (65 * (trial_lines - row_count seed)) (input_text (call_lines seed)) first out start end
+  turn_done h = play_done seed start first s p words out end (500 - k) now (omega arith)
+
+  module _ (h : k < 500) where
+    pub turn_ready : Ready p words
+    turn_ready = play_ready seed start first s p words out end (500 - k) now (omega arith)
+
+    pub turn_room : end + 65 ≤ length out
+    turn_room = play_room seed start first s p words out end (500 - k) now (omega arith)
+
+    pub turn_next : (y : Line) (t : Session) (r : Progress) (words' out' : List ℕ) (end' : ℕ) → y ≡ line_by_lem s p.number p.given
+        → Wrote 65 (input_line y) out out' end end' → Went y s t p r words words' → Playing seed start first t r words' out' end' (500 - (k + 1))
+    turn_next y t r words' out' end' is w g =
+        play_next seed start first s p words out end (500 - k) now (omega arith) y t r words' out' end' is w g (500 - (k + 1)) (omega arith)
+
+pub ruleset play_laws = (play_start, play_rows, play_sound, turn_ready, turn_room, turn_next, turn_done)

@@ -4,8 +4,10 @@ use Rattle.std.specs.Prelude.{◌≡◌, ℕ, zero, suc, ◌+◌, ◌-◌, ◌<�
 use Rattle.std.proofs.Math.Path.{refl, sym, ap}
 use Rattle.std.proofs.Common.{◌∙◌, add-one}
 use native.Mathlib.Omega.{arith}
-use borrow.Author.Tests.{le-leb, lt-leb, lt-ltb, le-ltb}
+use borrow.Author.Tests.{le-leb, lt-leb, lt-ltb, le-ltb, ltb-true}
 use Rattle.bounded.specs.Fold.{fold_to}
+use Rattle.std.proofs.lemmas.Option.{none-some}
+use Rattle.bounded.specs.Tests.{both}
 use Rattle.bounded.specs.Within.{Within}
 use Rattle.bounded.specs.Least.{Passed, passed_start, passed_next, first_found, first_none}
 use Rattle.table.specs.Rows.{horizon}
@@ -20,6 +22,14 @@ use Rattle.workload.specs.Trial.{ready_row_lem, ready, row_ready, until_next_lem
 abbrev pub may_arrive : Session → ℕ → Bool
 may_arrive s i = nat_le (job_at s i).next s.clock
 
+row_some : (s : Session) → ready_row_lem s < s.count → row_ready s ≡ Some (ready_row_lem s)
+unfolding row_ready ready
+row_some s l = simp (lt-ltb (ready_row_lem s) s.count l)
+
+row_none : (s : Session) → s.count ≤ ready_row_lem s → row_ready s ≡ None
+unfolding row_ready ready
+row_none s l = simp (le-ltb (ready_row_lem s) s.count l)
+
 module _ (s : Session) where
   pub ready_start : Passed (may_arrive s) 0
   ready_start = passed_start (may_arrive s)
@@ -28,21 +38,19 @@ module _ (s : Session) where
     pub ready_next : s.clock < (job_at s i).next → Passed (may_arrive s) (i + 1)
     ready_next h = passed_next (may_arrive s) i false p (sym (lt-leb _ _ h)) refl
 
+    found : i < n → n ≡ s.count → (job_at s i).next ≤ s.clock → i ≡ ready_row_lem s
+    unfolding ready_row_lem
+    found l e h = first_found (may_arrive s) i n s.count true p l e (sym (le-leb _ _ h)) refl
+
+    past : n ≤ i → n ≡ s.count → n ≡ ready_row_lem s
+    unfolding ready_row_lem
+    past l e = first_none (may_arrive s) i n s.count p l e
+
     pub ready_found : i < n → n ≡ s.count → (job_at s i).next ≤ s.clock → Some i ≡ row_ready s
-    unfolding row_ready ready
-    ready_found l e h = let f = found in rw f (sym (simp (lt-ltb (ready_row_lem s) s.count (omega (arith, f)))))
-      where
-        found : i ≡ ready_row_lem s
-        unfolding ready_row_lem
-        found = first_found (may_arrive s) i n s.count true p l e (sym (le-leb _ _ h)) refl
+    ready_found l e h = let f = found l e h in ap Some f ∙ sym (row_some s (omega (arith, f)))
 
     pub ready_none : n ≤ i → n ≡ s.count → None ≡ row_ready s
-    unfolding row_ready ready
-    ready_none l e = let f = past in sym (simp (le-ltb (ready_row_lem s) s.count (omega (arith, f))))
-      where
-        past : n ≡ ready_row_lem s
-        unfolding ready_row_lem
-        past = first_none (may_arrive s) i n s.count p l e
+    ready_none l e = let f = past l e in sym (row_none s (omega (arith, f)))
 
 -- ---- `until_next`
 
@@ -74,18 +82,36 @@ pub ruleset until_laws = (until_start, until_turn, until_done)
 
 -- ---- `line_by`
 
+row_in : Option ℕ → ℕ
+row_in (Some i) = i
+row_in None = 0
+
+ready_is : (s : Session) → ready s ≡ true → row_ready s ≡ Some (ready_row_lem s)
+unfolding row_ready
+ready_is s t = simp t
+
+ready_not : (s : Session) → ready s ≡ false → row_ready s ≡ None
+unfolding row_ready
+ready_not s t = simp t
+
 module _ (s : Session) (number : ℕ) (given : Bool) (r : Option ℕ) (e : r ≡ row_ready s) where
   pub says_arrive : (row : ℕ) → r ≡ Some row → Call (Arrive row) ≡ line_by_lem s number given
-  unfolding line_by_lem row_ready
+  unfolding line_by_lem row_in
   says_arrive row f =
       both (ready s)
-      (λ t. let g : Some row ≡ Some (ready_row_lem s) = sym f ∙ e ∙ simp t in simp t (ap (λ (x : Option ℕ). Call (Arrive (get_some x))) g))
-      (λ t. absurd (some≢none (sym f ∙ e ∙ simp t)))
+      (λ t. let g : row ≡ ready_row_lem s = ap row_in (sym f ∙ e ∙ ready_is s t) in ap (λ (x : ℕ). Call (Arrive x)) g ∙ sym (simp t))
+      (λ t. absurd (none-some row (sym (ready_not s t) ∙ sym e ∙ f)))
+
+  pub says_small : (row m : ℕ) → r ≡ Some row → s.count ≤ 16 → 16 < m → row < m
+  unfolding row_in ready
+  says_small row m f few h =
+      both (ready s)
+      (λ t. let g : row ≡ ready_row_lem s = ap row_in (sym f ∙ e ∙ ready_is s t) in omega (arith, ltb-true (ready_row_lem s) s.count t, g))
+      (λ t. absurd (none-some row (sym (ready_not s t) ∙ sym e ∙ f)))
 
   module _ (l : r ≡ None) where
     none_ready : ready s ≡ false
-    unfolding row_ready
-    none_ready = both (ready s) (λ t. absurd (some≢none (sym (simp t) ∙ sym e ∙ l))) (λ t. t)
+    none_ready = both (ready s) (λ t. absurd (none-some (ready_row_lem s) (sym l ∙ e ∙ ready_is s t))) (λ t. t)
 
     pub says_advance : (u m : ℕ) → Within horizon (until_next_lem s) u → m ≡ min s.span u → 0 < s.span → Call (Advance m) ≡ line_by_lem s number given
     unfolding line_by_lem
@@ -99,4 +125,4 @@ module _ (s : Session) (number : ℕ) (given : Bool) (r : Option ℕ) (e : r ≡
     unfolding line_by_lem
     says_word w h f g = rw g (sym (simp (none_ready, le-ltb 0 s.span h, f)))
 
-pub ruleset line_cases = (says_arrive, says_advance, says_choose, says_word)
+pub ruleset line_cases = (says_arrive, says_small, says_advance, says_choose, says_word)

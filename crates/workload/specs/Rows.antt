@@ -45,7 +45,7 @@ pub record Tabling (seed n : ℕ) (before : List ℕ) (t : Rows) (d : ℕ) (out 
   pub wrote : Wrote (65 * t.count) (input_text (row_lines (rows_to seed t.count))) before out 0 t.at
   pub same : length out ≡ length before
 
-pub tabling_start : (seed n d : ℕ) (before : List ℕ) → n ≡ 5 + seed % 8 → d ≡ seed / 8 → 780 ≤ length before
+tabling_start : (seed n d : ℕ) (before : List ℕ) → n ≡ 5 + seed % 8 → d ≡ seed / 8 → 780 ≤ length before
     → Tabling seed n before (record { words = replicate 48 0; count = 0; at = 0 }) d before
 unfolding row_count digit_of rows_to input_text
 tabling_start seed n d before e f h = record {
@@ -59,10 +59,6 @@ tabling_start seed n d before e f h = record {
   same = refl;
 }
 
--- one row less is left to do
-pub tabling_less : (t u : Rows) (r : RowOf) (end n : ℕ) → t.count < n → u ≡ with_row t r.run r.period r.deadline end → n - u.count < n - t.count
-tabling_less t u r end n l e = rw e (omega arith)
-
 module _ (seed n : ℕ) (before : List ℕ) (t : Rows) (d : ℕ) (out : List ℕ) (now : Tabling seed n before t d out) where
   abbrev i : ℕ
   i = t.count
@@ -72,20 +68,17 @@ module _ (seed n : ℕ) (before : List ℕ) (t : Rows) (d : ℕ) (out : List ℕ
   text = input_text (row_lines (rows_to seed i))
 
   module _ (l : i < n) where
-    pub tabling_row : (n ≤ 12) × (i ≤ 12) × (d % 8 < 8)
-    tabling_row = let c = count_few seed in (omega (arith, now.rows), omega (arith, now.rows), omega arith)
-
-    pub tabling_place : i < 16
+    tabling_place : i < 16
     tabling_place = omega (arith, now.rows, count_few seed)
 
-    pub tabling_room : t.at + 65 ≤ length out
+    tabling_room : t.at + 65 ≤ length out
     tabling_room = omega (arith, now.rows, now.room, now.same, now.wrote.place, now.wrote.short, count_few seed)
 
     row_now : row_by n i (d % 8) ≡ row_of seed i
     unfolding row_of digit_of
     row_now = ap (λ (x : ℕ). row_by n i (x % 8)) now.digits ∙ ap (λ (m : ℕ). row_by m i (seed / 8 ^ (i + 1) % 8)) now.rows
 
-    pub tabling_next : (r : RowOf) (u : Rows) (end : ℕ) (out' : List ℕ) → RowIs n i (d % 8) r → u ≡ with_row t r.run r.period r.deadline end
+    tabling_next : (r : RowOf) (u : Rows) (end : ℕ) (out' : List ℕ) → RowIs n i (d % 8) r → u ≡ with_row t r.run r.period r.deadline end
         → Wrote 65 (input_line (Row r.run r.period r.deadline)) out out' t.at end
         → Tabling seed n before u (d / 8) out'
     unfolding rows_to input_text
@@ -115,7 +108,7 @@ module _ (seed n : ℕ) (before : List ℕ) (t : Rows) (d : ℕ) (out : List ℕ
           same = wrote_length 65 line out out' t.at end (omega (arith, tabling_room, w.short)) w ∙ now.same;
         })
 
-  pub tabling_done : n ≤ i → Tabled seed t before out
+  tabling_done : n ≤ i → Tabled seed t before out
   unfolding table_of
   tabling_done l =
       let last : i ≡ row_count seed = omega (arith, now.few, now.rows) in
@@ -127,4 +120,38 @@ module _ (seed n : ℕ) (before : List ℕ) (t : Rows) (d : ℕ) (out : List ℕ
         wrote = rw last at now.wrote;
       }
 
-pub ruleset tabling_laws = (tabling_start, tabling_less, tabling_row, tabling_place, tabling_room, tabling_next, tabling_done)
+-- at turn k of the loop
+pub record Turn (seed n : ℕ) (before : List ℕ) (t : Rows) (d : ℕ) (out : List ℕ) (k : ℕ) : Type 0 where
+  pub so_far : Tabling seed n before t d out
+  pub turn : t.count ≡ k
+
+pub turn_start : (seed n d : ℕ) (before : List ℕ) → n ≡ 5 + seed % 8 → d ≡ seed / 8 → 780 ≤ length before
+    → Turn seed n before (record { words = replicate 48 0; count = 0; at = 0 }) d before 0
+turn_start seed n d before e f h = record { so_far = tabling_start seed n d before e f h; turn = refl }
+
+module _ (seed n : ℕ) (before : List ℕ) (t : Rows) (d : ℕ) (out : List ℕ) (k : ℕ) (now : Turn seed n before t d out k) where
+  pub turn_done : n ≤ k → Tabled seed t before out
+  turn_done l = tabling_done seed n before t d out now.so_far (omega (arith, now.turn))
+
+  module _ (l : k < n) where
+    below : t.count < n
+    below = omega (arith, now.turn)
+
+    pub turn_row : (n ≤ 12) × (k ≤ 12) × (d % 8 < 8)
+    turn_row = let c = count_few seed in (omega (arith, now.so_far.rows), omega (arith, now.so_far.rows), omega arith)
+
+    pub turn_place : t.count < 16
+    turn_place = tabling_place seed n before t d out now.so_far below
+
+    pub turn_room : t.at + 65 ≤ length out
+    turn_room = tabling_room seed n before t d out now.so_far below
+
+    pub turn_next : (r : RowOf) (u : Rows) (end : ℕ) (out' : List ℕ) → RowIs n k (d % 8) r → u ≡ with_row t r.run r.period r.deadline end
+        → Wrote 65 (input_line (Row r.run r.period r.deadline)) out out' t.at end
+        → Turn seed n before u (d / 8) out' (k + 1)
+    turn_next r u end out' is e w = record {
+      so_far = tabling_next seed n before t d out now.so_far below r u end out' (rw now.turn is) e w;
+      turn = ap (λ (x : Rows). x.count) e ∙ ap (λ (m : ℕ). m + 1) now.turn;
+    }
+
+pub ruleset tabling_laws = (turn_start, turn_row, turn_place, turn_room, turn_next, turn_done)

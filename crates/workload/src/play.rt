@@ -68,7 +68,10 @@ fn aside(p: Progress, line: Line, words: &mut [u32]) -> Progress
 {
     match line {
         Line::Word(w) => queued(p, w, words),
-        Line::Call(_) | Line::Row { .. } | Line::Empty | Line::Unreadable => p,
+        Line::Call(_) => p,
+        Line::Row { .. } => p,
+        Line::Empty => p,
+        Line::Unreadable => p,
     }
 }
 

@@ -33,12 +33,6 @@ is_ahead-requires c = search (rules, aged_laws)
 pub overflow_add-later : goal.overflow_add-later
 overflow_add-later c = search (rules, aged_laws)
 
-pub offset_bounds-later-i-in-loop-i : goal.offset_bounds-later-i-in-loop-i
-offset_bounds-later-i-in-loop-i c = search (rules, aged_laws)
-
-pub bounds-later-i-in-loop-i : goal.bounds-later-i-in-loop-i
-bounds-later-i-in-loop-i c = search (rules, aged_laws)
-
 pub loop-i-preserved : goal.loop-i-preserved
 loop-i-preserved c = search (rules, aged_laws)
 

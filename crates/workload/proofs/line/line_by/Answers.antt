@@ -2,8 +2,8 @@ use Rattle.std.proofs.Common.{rules}
 use Rattle.workload.specs.Line.{line_cases}
 use Rattle.workload.proofs.line.line_by.Goals as goal
 
-pub returns-then-row-s : goal.returns-then-row-s
-returns-then-row-s c = search (rules, line_cases)
+pub returns-in-Some : goal.returns-in-Some
+returns-in-Some c = search (rules, line_cases)
 
 pub returns-then-span-gt0 : goal.returns-then-span-gt0
 returns-then-span-gt0 c = search (rules, line_cases)
@@ -13,3 +13,6 @@ returns-then-given c = search (rules, line_cases)
 
 pub returns : goal.returns
 returns c = search (rules, line_cases)
+
+pub overflow_cast-result : goal.overflow_cast-result
+overflow_cast-result c = search (rules, line_cases)

@@ -11,8 +11,8 @@ offset_bounds-s-i c = search (rules, ready_laws)
 pub bounds-s-i : goal.bounds-s-i
 bounds-s-i c = search (rules, ready_laws)
 
-pub returns-then-j-clock : goal.returns-then-j-clock
-returns-then-j-clock c = search (rules, ready_laws)
+pub returns-then-s-i : goal.returns-then-s-i
+returns-then-s-i c = search (rules, ready_laws)
 
 pub loop-i-preserved : goal.loop-i-preserved
 loop-i-preserved c = search (rules, ready_laws)

@@ -2,24 +2,18 @@ use Rattle.std.proofs.Common.{arith, rules}
 use Rattle.transcript.specs.Play.{part_is}
 use Rattle.transcript.proofs.NotCall.{not_call}
 use Rattle.workload.specs.Loose.{count_few}
-use Rattle.workload.specs.Play.{aside_went, used_within, went_call, play_ready}
-use Rattle.workload.proofs.PlayLaws.{play_laws}
+use Rattle.workload.specs.Play.{aside_went, used_within, went_call}
+use Rattle.workload.proofs.PlayLaws.{turn_ready, play_laws}
 use Rattle.workload.proofs.play.put_calls.Goals as goal
 
-pub overflow_sub-left : goal.overflow_sub-left
-overflow_sub-left c = omega (arith, count_few c.args.seed)
-
-pub loop-left-init : goal.loop-left-init
-loop-left-init c = search (rules, play_laws)
+pub loop-init : goal.loop-init
+loop-init c = search (rules, play_laws)
 
 pub line_by-line-requires : goal.line_by-line-requires
 line_by-line-requires c = search (rules, play_laws)
 
 pub put_input-end-requires : goal.put_input-end-requires
 put_input-end-requires c = search (rules, play_laws)
-
-pub overflow_sub-left-in-loop-left : goal.overflow_sub-left-in-loop-left
-overflow_sub-left-in-loop-left c = search (rules, play_laws)
 
 pub enum_known-line : goal.enum_known-line
 enum_known-line c = search (rules, play_laws)
@@ -30,11 +24,8 @@ slice_bounds-aside-end c = search (rules, play_laws)
 pub aside-p-requires : goal.aside-p-requires
 aside-p-requires c = search (rules, play_laws)
 
-pub loop-left-smaller-in_default : goal.loop-left-smaller-in_default
-loop-left-smaller-in_default c = search (rules, play_laws)
-
-pub loop-left-preserved-in_default : goal.loop-left-preserved-in_default
-loop-left-preserved-in_default c = search (rules, play_laws, aside_went, not_call)
+pub loop-preserved-in_default : goal.loop-preserved-in_default
+loop-preserved-in_default c = search (rules, play_laws, aside_went, not_call)
 
 pub offset_bounds-words-from : goal.offset_bounds-words-from
 offset_bounds-words-from c = search (rules, play_laws)
@@ -53,14 +44,11 @@ call-o-requires c = search (rules, play_laws)
 
 pub called-p-requires : goal.called-p-requires
 called-p-requires c =
-    used_within c.loop-left.p c.loop-left.words (play_ready _ _ _ _ _ _ _ _ _ c.loop-left.invariant c.loop-left-test.true) _ _ _
-    (part_is c.loop-left.p.from c.loop-left.p.to c.loop-left.words) c.call-o.result c.call-o.ensures
+    used_within c.loop.p c.loop.words (turn_ready _ _ _ _ _ _ _ _ _ c.loop.invariant c.loop-test.true) _ _ _
+    (part_is c.loop.p.from c.loop.p.to c.loop.words) c.call-o.result c.call-o.ensures
 
-pub loop-left-smaller : goal.loop-left-smaller
-loop-left-smaller c = search (rules, play_laws)
-
-pub loop-left-preserved : goal.loop-left-preserved
-loop-left-preserved c = search (rules, play_laws, went_call, part_is)
+pub loop-preserved : goal.loop-preserved
+loop-preserved c = search (rules, play_laws, went_call, part_is)
 
 pub shape_of-out : goal.shape_of-out
 shape_of-out c = search (rules, play_laws)

@@ -8,8 +8,8 @@ overflow_cast-n c = search (rules, tabling_laws)
 pub overflow_add-n : goal.overflow_add-n
 overflow_add-n c = search (rules, tabling_laws)
 
-pub loop-t-init : goal.loop-t-init
-loop-t-init c = search (rules, tabling_laws)
+pub loop-i-init : goal.loop-i-init
+loop-i-init c = search (rules, tabling_laws)
 
 pub row_by-r-requires : goal.row_by-r-requires
 row_by-r-requires c = search (rules, tabling_laws)
@@ -20,11 +20,8 @@ put_input-end-requires c = search (rules, tabling_laws)
 pub with_row-t-requires : goal.with_row-t-requires
 with_row-t-requires c = search (rules, tabling_laws)
 
-pub loop-t-smaller : goal.loop-t-smaller
-loop-t-smaller c = search (rules, tabling_laws)
-
-pub loop-t-preserved : goal.loop-t-preserved
-loop-t-preserved c = search (rules, tabling_laws)
+pub loop-i-preserved : goal.loop-i-preserved
+loop-i-preserved c = search (rules, tabling_laws)
 
 pub shape_of-out : goal.shape_of-out
 shape_of-out c = search (rules, tabling_laws)
