@@ -1,15 +1,15 @@
 -- What the host sees of an opinion, of a start and of an outcome, in numbers (docs/SPECIFICATION.md §9). Assumes nothing.
-use Rattle.std.specs.Prelude.{◌≡◌, []}
+use Rattle.std.specs.Prelude.{◌≡◌, Result, Ok, Err, List, ℤ, pos, replicate}
 use Rattle.std.proofs.Common.{sym, ap, ◌∙◌}
 use Rattle.table.specs.declared.Numbers as verdict
 use Rattle.table.specs.declared.Judgement as table
+use Rattle.table.specs.declared.Refusal.{Refusal}
 use Rattle.table.specs.Verdict.{Opinion}
 use Rattle.table.specs.Opinion as opinion
 use Rattle.session.specs.declared.Numbers.{Numbers}
 use Rattle.session.specs.declared.Outcome.{Outcome}
 use Rattle.session.specs.Calls.{shown, Shows}
 use Rattle.lent.specs.declared.Reply as lending
-use Rattle.lent.specs.declared.Opening as lending_start
 use Rattle.lent.specs.Reply as lent
 use Rattle.host.specs.declared.Reply.{Reply}
 use Rattle.host.specs.declared.Judgement.{Judgement}
@@ -33,9 +33,9 @@ reply_of o = in_numbers (lent.reply_of o)
 abbrev pub answered : Opinion → Reply
 answered o = record { number = o.number; used = 0; first = o.first; second = o.second }
 
--- what a start says: the number and values of its verdict
-unfoldable pub opening_reply : lending_start.Opening → Reply
-opening_reply o = answered (opinion.shown o.verdict [])
+-- what a start says: the number and values of its opinion
+unfoldable pub opening_reply : Result table.Judgement Refusal → Reply
+opening_reply o = answered (opinion.shown_of o)
 
 -- an opinion, with V of each row
 abbrev pub judgement_of : Opinion → Judgement
@@ -48,15 +48,24 @@ pub in_numbers_is : (r : lending.Reply) (n : Numbers) → Shows (shown r.answer)
 unfolding in_numbers
 in_numbers_is r n h = rw (h.number, h.first, h.second)
 
-pub opening_reply_is : (o : lending_start.Opening) (n : verdict.Numbers) → opinion.Shows o.verdict n
+pub opening_reply_is : (o : Result table.Judgement Refusal) (n : verdict.Numbers) → opinion.Shows o n
     → record { number = n.number; used = 0; first = n.first; second = n.second } ≡ opening_reply o
 unfolding opening_reply
 opening_reply_is o n h = rw (h.number, h.first, h.second)
 
-pub opened : (o : lending_start.Opening) (p : Opinion) (r : Reply) → opinion.Says o.verdict p → r ≡ opening_reply o → r ≡ answered p
+pub opened : (o : Result table.Judgement Refusal) (p : Opinion) (r : Reply) → opinion.shown_of o ≡ p → r ≡ opening_reply o → r ≡ answered p
 unfolding opening_reply
-opened o p r h e = e ∙ rw (h.number, h.first, h.second)
+opened o p r h e = e ∙ ap answered h
 
-pub judgement_is : (j : table.Judgement) (n : verdict.Numbers) → opinion.Shows j.verdict n
-    → record { number = n.number; first = n.first; second = n.second; budgets = j.budgets } ≡ judgement_of (opinion.shown_of j)
-judgement_is j n g = sym (ap judgement_of (opinion.shows_of j n g))
+module _ (o : Result table.Judgement Refusal) where
+  pub budgets_admitted : (j : table.Judgement) → o ≡ Ok j → j.budgets ≡ (opinion.shown_of o).budgets
+  budgets_admitted j e = ap (λ (x : Result table.Judgement Refusal). (opinion.shown_of x).budgets) (sym e)
+
+  pub budgets_refused : (r : Refusal) → o ≡ Err r → replicate 16 (pos 0) ≡ (opinion.shown_of o).budgets
+  budgets_refused r e = sym (opinion.refused_budgets r) ∙ ap (λ (x : Result table.Judgement Refusal). (opinion.shown_of x).budgets) (sym e)
+
+  pub judgement_is : (n : verdict.Numbers) (b : List ℤ) → opinion.Shows o n → b ≡ (opinion.shown_of o).budgets
+      → record { number = n.number; first = n.first; second = n.second; budgets = b } ≡ judgement_of (opinion.shown_of o)
+  judgement_is n b g e = rw e (sym (ap judgement_of (opinion.shows_of o n g)))
+
+pub ruleset budgets_cases = (budgets_admitted, budgets_refused)

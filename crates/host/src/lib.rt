@@ -19,6 +19,7 @@ use explain::{Told, Untold};
 use meter::{BadShape, Shape};
 use session::sound::is_sound;
 use session::{Arrival, Session};
+use table::Refusal;
 
 // An answer in numbers: its number, 0 where the call is accepted; the words that a choice used; and two values. The number
 // stays a `u64`: the C interface.
@@ -56,11 +57,11 @@ impl From<lent::Reply> for Reply {
 }
 
 // A start uses no word.
-impl From<lent::Opening> for Reply {
+impl From<Result<table::Judgement, Refusal>> for Reply {
     ghost from_gives = { λ o n. n ≡ opening_reply o };
 
-    fn from(o: lent::Opening) -> Reply {
-        let v = table::shown(o.verdict);
+    fn from(o: Result<table::Judgement, Refusal>) -> Reply {
+        let v = table::shown(o);
         Reply {
             number: v.number,
             used: 0,
@@ -124,17 +125,26 @@ impl From<Result<u64, BadShape>> for Reply {
     }
 }
 
-impl From<table::Judgement> for Judgement {
-    ghost from_gives = { λ j n. n ≡ judgement_of (shown_of j) };
+// V of each row; 0 in all places where the table is refused.
+fn budgets_in(opinion: Result<table::Judgement, Refusal>) -> [i64; 16]
+    ensures { result ≡ (shown_of opinion).budgets }
+{
+    match opinion {
+        Ok(j) => j.budgets,
+        Err(_) => [0; 16],
+    }
+}
 
-    fn from(j: table::Judgement) -> Judgement {
-        let said = table::shown(j.verdict);
-        let budgets = j.budgets;
+impl From<Result<table::Judgement, Refusal>> for Judgement {
+    ghost from_gives = { λ o n. n ≡ judgement_of (shown_of o) };
+
+    fn from(opinion: Result<table::Judgement, Refusal>) -> Judgement {
+        let said = table::shown(opinion);
         Judgement {
             number: said.number,
             first: said.first,
             second: said.second,
-            budgets,
+            budgets: budgets_in(opinion),
         }
     }
 }

@@ -1,10 +1,11 @@
 -- A refused call leaves the record as it was, and so does a refused start (docs/SPECIFICATION.md §5.8). Assumes nothing.
-use Rattle.std.specs.Prelude.{◌≡◌, refl, ℕ, List, []}
+use Rattle.std.specs.Prelude.{◌≡◌, refl, ℕ, Result, List}
 use Rattle.std.proofs.Common.{ap, ◌∙◌}
 use Rattle.bounded.specs.Tests.{both}
-use Rattle.table.specs.Verdict.{opinion_of}
-use Rattle.table.specs.Opinion.{Says}
-use Rattle.table.specs.Opinion as verdict
+use Rattle.table.specs.Verdict.{Opinion, opinion_of}
+use Rattle.table.specs.declared.Judgement.{Judgement}
+use Rattle.table.specs.declared.Refusal.{Refusal}
+use Rattle.table.specs.Opinion as opinion
 use Rattle.session.specs.declared.Session.{Session}
 use Rattle.session.specs.declared.Answer.{Answer}
 use Rattle.session.specs.declared.Outcome.{Outcome}
@@ -15,7 +16,6 @@ use Rattle.guarantee.specs.Ledger.{Call}
 use Rattle.guarantee.specs.Statement.{outcome_of}
 use Rattle.guarantee.specs.Effects.{Effect, refusal, arrived, chosen, advanced, finished, effect_of, unsound_refused}
 use Rattle.lent.specs.declared.Reply.{Reply}
-use Rattle.lent.specs.declared.Opening.{Opening}
 use Rattle.lent.specs.Reply.{reply_of}
 
 effect_same : {s s' : Session} {c : Call} {a : Answer} → Effect s c s' a → ((shown a).number ≡ 0 → ⊥) → s' ≡ s
@@ -32,6 +32,6 @@ refused_same s s' c r e f ne =
     f ∙ both (sound s) (λ t. effect_same (effect_of s t c) (λ z. ne (ap (λ (x : Reply). (shown x.answer).number) e ∙ z)))
     (λ u. ap (λ (o : Outcome). o.session) (unsound_refused s c u))
 
-pub start_refused_same : (s s' : Session) (l : List ℕ) (r : Opening) → Says r.verdict (opinion_of l) → s' ≡ start_of s l
-    → ((verdict.shown r.verdict []).number ≡ 0 → ⊥) → s' ≡ s
-start_refused_same s s' l r h f ne = f ∙ start_same s l (λ z. ne (h.number ∙ z))
+pub start_refused_same : (s s' : Session) (l : List ℕ) (r : Result Judgement Refusal) → opinion.shown_of r ≡ opinion_of l → s' ≡ start_of s l
+    → ((opinion.shown_of r).number ≡ 0 → ⊥) → s' ≡ s
+start_refused_same s s' l r h f ne = f ∙ start_same s l (λ z. ne (ap (λ (o : Opinion). o.number) h ∙ z))

@@ -4,37 +4,22 @@
 
 ghost use Rattle.std.specs.Prelude.{◌≡◌, length};
 ghost use Rattle.table.specs.Verdict.{opinion_of};
-ghost use Rattle.table.specs.Opinion.{Says};
+ghost use Rattle.table.specs.Opinion.{shown_of};
 ghost use Rattle.session.specs.Start.{start_of};
 ghost use Rattle.session.specs.Calls.{arrive_of, choose_of, advance_of, finish_of};
 ghost use Rattle.session.specs.Batch.{after_all, answered_all};
 ghost use Rattle.explain.specs.Explain.{told_of, buffer_of};
-ghost use Rattle.lent.specs.Reply.{reply_of, opening_of};
+ghost use Rattle.lent.specs.Reply.{reply_of};
 
 use explain::{Told, Untold};
-use session::start::Started;
 use session::{Answer, Arrival, Outcome, Session};
-use table::Verdict;
+use table::{Judgement, Refusal};
 
 // What the host sees of a call: the answer, and how many words a choice used.
 #[derive(Clone, Copy)]
 pub struct Reply {
     pub answer: Answer,
     pub used: u64,
-}
-
-// What it sees of a start: the verdict of the opinion on the table.
-#[derive(Clone, Copy)]
-pub struct Opening {
-    pub verdict: Verdict,
-}
-
-impl From<Started> for Opening {
-    ghost from_gives = { λ o r. r ≡ opening_of o };
-
-    fn from(o: Started) -> Opening {
-        Opening { verdict: o.verdict }
-    }
 }
 
 // What the host sees of an outcome. The session that the call leaves goes into the record.
@@ -80,12 +65,12 @@ pub fn finish(s: &mut Session) -> Reply
 }
 
 // In place of whatever the record held, which a refused table leaves as it was.
-pub fn start(s: &mut Session, words: &[u32]) -> Opening
-    ensures { Says result.verdict (opinion_of words.now) × (s.new ≡ start_of s.old words.now) }
+pub fn start(s: &mut Session, words: &[u32]) -> Result<Judgement, Refusal>
+    ensures { (shown_of result ≡ opinion_of words.now) × (s.new ≡ start_of s.old words.now) }
 {
     let o = session::start::start_on(*s, words);
     *s = o.session;
-    Opening::from(o)
+    o.opinion
 }
 
 // The text of what choose answers on these words, and why, in a buffer of the host. The record is only read.

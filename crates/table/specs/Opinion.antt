@@ -1,6 +1,6 @@
 -- What `opinion` promises, and the cases of its code. Assumes nothing.
 use Prim.Native.Nat.{ℕ, ◌%◌, ◌≤◌, ◌<◌, min}
-use Rattle.std.specs.Prelude.{◌≡◌, refl, Bool, true, false, not, List, Option, Some, None, is_none, ltb, eqb, length, Result, Ok, Err, is_err}
+use Rattle.std.specs.Prelude.{◌≡◌, refl, Bool, true, false, not, List, Option, Some, None, is_none, ltb, eqb, pos, length, replicate, Result, Ok, Err, is_err}
 use Rattle.std.proofs.Math.Path.{sym, ap}
 use Rattle.std.proofs.Common.{◌∙◌, true≢false, arith}
 use Rattle.std.proofs.Math.Bool.{cond}
@@ -97,6 +97,13 @@ refusal_some (Length n) z = omega arith
 refusal_some (Row i) z = omega arith
 refusal_some (Overload t d) z = omega arith
 refusal_some Unsettled z = omega arith
+
+-- and no budgets
+pub refused_budgets : (r : Refusal) → (shown_of (Err r)).budgets ≡ replicate 16 (pos 0)
+refused_budgets (Length n) = refl
+refused_budgets (Row i) = refl
+refused_budgets (Overload t d) = refl
+refused_budgets Unsettled = refl
 
 pub refused_number : (v : Result Judgement Refusal) → is_err v ≡ not (eqb (shown_of v).number 0)
 refused_number (Ok j) = refl
