@@ -5,11 +5,11 @@ use borrow.Author.Tests.{eq-eqb}
 use Rattle.table.specs.Rows.{tasks_of}
 use Rattle.table.specs.Statement.{HasKind}
 use Rattle.table.specs.Verdict.{opinion_of, kind_of}
-use Rattle.table.specs.Opinion.{is_loose_lem, is_marks, heavy_kind_lem, say_fit}
+use Rattle.table.specs.Opinion.{is_loose_lem, is_marks, heavy_kind_lem}
 use Rattle.table.proofs.TheoremsLaws.{kind_means}
-use Rattle.table.specs.Kind.{kind_length, kind_row, kind_judged}
+use Rattle.table.specs.Kind.{kind_length, kind_row, kind_fit, kind_judged}
 
-pub ruleset kind_cases = (kind_length, kind_row, say_fit, kind_judged)
+pub ruleset kind_cases = (kind_length, kind_row, kind_fit, kind_judged)
 
 -- ---- what a kind says of the opinion
 

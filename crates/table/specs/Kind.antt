@@ -12,11 +12,11 @@ use Rattle.table.specs.declared.kind.Admission.{Admission}
 use Rattle.table.specs.declared.kind.Kind.{Kind}
 use Rattle.table.specs.declared.kind.Kind.TheVariants.{Loose, Tight, Mixed}
 use Rattle.table.specs.declared.overload.Found.{Found}
-use Rattle.table.specs.Rows.{tasks_of, first_broken_lem, Fit}
+use Rattle.table.specs.Rows.{tasks_of, first_broken_lem, FirstBroken, Fit}
 use Rattle.table.specs.Budgets.{marks_of, budgets_of}
 use Rattle.table.specs.Overload as search
 use Rattle.table.specs.Verdict.{bad_length, heavy_kind, overloaded, settled, judged_of, opinion_of, kind_in, kind_of}
-use Rattle.table.specs.Opinion.{kind_number, is_loose_lem, is_marks, heavy_kind_lem}
+use Rattle.table.specs.Opinion.{kind_number, is_loose_lem, is_marks, heavy_kind_lem, say_fit}
 use Rattle.table.specs.Settle.{found, Settles, unsettled_by, settled_by, fits_by, over_by}
 
 -- an admission in numbers: its kind's, and 0 where there is none
@@ -89,17 +89,28 @@ module _ (l : List ℕ) (b : Bool) (e : b ≡ bad_length (length l)) where
   unfolding kind_of opinion_of
   kind_length t = none_for (simp (sym e ∙ t))
 
-  module _ (i n : ℕ) (f : i ≡ first_broken_lem (tasks_of l)) (r : n ≡ (tasks_of l).rows) (no : b ≡ false) where
-    pub kind_row : i < n → KindFor l None
+  module _ (no : b ≡ false) where
+    pub kind_row : (r : Option ℕ) → FirstBroken (tasks_of l) r → is_some r ≡ true → KindFor l None
     unfolding kind_of opinion_of
-    kind_row h = none_for (simp (sym e ∙ no, lt-ltb (first_broken_lem (tasks_of l)) (tasks_of l).rows (omega arith)))
+    kind_row None f t = absurd (true≢false (sym t))
+    kind_row (Some i) f t =
+        none_for (simp (sym e ∙ no, lt-ltb (first_broken_lem (tasks_of l)) (tasks_of l).rows (omega (arith, f.0, f.1))))
 
-    pub kind_judged : (k : Option Admission) → n ≤ i → FitKind (tasks_of l) k → KindFor l k
+    none_broken : (r : Option ℕ) → FirstBroken (tasks_of l) r → is_some r ≡ false → (tasks_of l).rows ≡ first_broken_lem (tasks_of l)
+    none_broken None f z = f
+    none_broken (Some i) f z = absurd (true≢false z)
+
+    pub kind_fit : (r : Option ℕ) → FirstBroken (tasks_of l) r → is_some r ≡ false → Fit (tasks_of l)
+    kind_fit r f z = say_fit l b e no (none_broken r f z)
+
+    pub kind_judged : (r : Option ℕ) (k : Option Admission) → FirstBroken (tasks_of l) r → is_some r ≡ false → FitKind (tasks_of l) k → KindFor l k
     unfolding kind_of opinion_of
-    kind_judged k h j = record {
-      number = simp (sym e ∙ no, le-ltb (first_broken_lem (tasks_of l)) (tasks_of l).rows (omega arith)) j.number;
-      brittle = j.brittle;
-    }
+    kind_judged r k f z j =
+        let same = none_broken r f z in
+        record {
+          number = simp (sym e ∙ no, le-ltb (first_broken_lem (tasks_of l)) (tasks_of l).rows (omega arith)) j.number;
+          brittle = j.brittle;
+        }
 
 -- ---- what a kind says of the opinion
 

@@ -18,7 +18,7 @@ use Rattle.table.specs.declared.budgets.Budgets.{Budgets}
 use Rattle.table.specs.declared.busy.Busy.{Busy}
 use Rattle.table.specs.declared.overload.Found.{Found}
 use Rattle.table.specs.declared.first.Counted.{Counted}
-use Rattle.table.specs.Rows.{horizon, tasks_of, first_broken_lem, Fit, fit_of}
+use Rattle.table.specs.Rows.{horizon, tasks_of, first_broken_lem, FirstBroken, Fit, fit_of}
 use Rattle.table.specs.Budgets.{loose, values_of, marks_of, budgets_of}
 use Rattle.table.specs.Busy.{busy_length, or_past, Settled, length_some, length_none}
 use Rattle.table.specs.Overload.{Searched, over, none}
@@ -238,14 +238,14 @@ module _ (l : List ℕ) (b : Bool) (e : b ≡ bad_length (length l)) where
   unfolding opinion_of
   say_length t = simp (sym e ∙ t)
 
-  module _ (i n : ℕ) (f : i ≡ first_broken_lem (tasks_of l)) (k : n ≡ (tasks_of l).rows) (no : b ≡ false) where
-    pub say_row : i < n → shown_of (Err (Row i)) ≡ opinion_of l
+  module _ (no : b ≡ false) where
+    pub say_row : (i : ℕ) → FirstBroken (tasks_of l) (Some i) → shown_of (Err (Row i)) ≡ opinion_of l
     unfolding opinion_of
-    say_row h = simp (sym e ∙ no, lt-ltb (first_broken_lem (tasks_of l)) (tasks_of l).rows (omega arith), f)
+    say_row i f = simp (sym e ∙ no, lt-ltb (first_broken_lem (tasks_of l)) (tasks_of l).rows (omega (arith, f.0, f.1)), f.0)
 
-    pub say_fit : n ≤ i → Fit (tasks_of l)
-    say_fit h = let g = length_fit l (sym e ∙ no) in fit_of (tasks_of l) g.0 g.1 (omega arith)
+    pub say_fit : (tasks_of l).rows ≡ first_broken_lem (tasks_of l) → Fit (tasks_of l)
+    say_fit f = let g = length_fit l (sym e ∙ no) in fit_of (tasks_of l) g.0 g.1 (omega arith)
 
-    pub say_judged : (a : Result Judgement Refusal) → n ≤ i → shown_of a ≡ judged_of (tasks_of l) → shown_of a ≡ opinion_of l
+    pub say_judged : (a : Result Judgement Refusal) → (tasks_of l).rows ≡ first_broken_lem (tasks_of l) → shown_of a ≡ judged_of (tasks_of l) → shown_of a ≡ opinion_of l
     unfolding opinion_of
-    say_judged a h j = simp (sym e ∙ no, le-ltb (first_broken_lem (tasks_of l)) (tasks_of l).rows (omega arith)) j
+    say_judged a f j = simp (sym e ∙ no, le-ltb (first_broken_lem (tasks_of l)) (tasks_of l).rows (omega arith)) j

@@ -1,5 +1,5 @@
 -- The rows of a table and their rule (docs/SPECIFICATION.md §2.1). Assumes nothing.
-use Rattle.std.specs.Prelude.{ℕ, ◌+◌, ◌*◌, ◌/◌, ◌≤◌, ◌<◌, ◌^◌, ◌≡◌, Bool, false, not, ◌&&◌, List, leb, length, get_or}
+use Rattle.std.specs.Prelude.{ℕ, ◌+◌, ◌*◌, ◌/◌, ◌≤◌, ◌<◌, ◌^◌, ◌≡◌, Bool, false, not, ◌&&◌, Option, MatchOption, List, leb, length, get_or}
 use Rattle.std.proofs.Common.{arith}
 use borrow.Author.Tests.{leb-true, not-false}
 use Rattle.bounded.specs.Tests.{and-true}
@@ -30,6 +30,10 @@ broken τ i = not (row_rule τ i)
 -- the first row that breaks its rule, or the number of rows where none does
 unfoldable pub first_broken_lem : TaskSet → ℕ
 first_broken_lem τ = least_from (broken τ) 0 τ.rows
+
+-- r is the first row that breaks its rule, if there is one
+abbrev pub FirstBroken : TaskSet → Option ℕ → Type 0
+FirstBroken τ r = MatchOption r (τ.rows ≡ first_broken_lem τ) (λ i. (i ≡ first_broken_lem τ) × (i < τ.rows))
 
 -- ---- what the code reads
 

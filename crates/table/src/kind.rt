@@ -9,7 +9,7 @@ use super::budgets::all_budgets;
 use super::ill_sized;
 use super::inverse::inverses_of;
 use super::overload::search;
-use super::rows::{count, first_broken};
+use super::rows::first_broken;
 use super::settle::settling;
 
 // The kind of an admitted table; 1, 2 or 3 where it is a number.
@@ -69,7 +69,7 @@ pub fn kind_of(words: &[u32]) -> Option<Admission>
     if ill_sized(words.len()) {
         return None;
     }
-    if first_broken(words) < count(words) {
+    if first_broken(words).is_some() {
         return None;
     }
     fit_kind(words)

@@ -135,9 +135,8 @@ pub fn opinion(words: &[u32]) -> Result<Judgement, Refusal>
     if ill_sized(n) {
         return Err(Refusal::Length(n));
     }
-    let i = rows::first_broken(words);
-    if i < rows::count(words) {
-        return Err(Refusal::Row(i));
+    match rows::first_broken(words) {
+        Some(i) => Err(Refusal::Row(i)),
+        None => judge(words),
     }
-    judge(words)
 }

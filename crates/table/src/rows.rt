@@ -1,6 +1,6 @@
 // The rows of a table and their rule (docs/SPECIFICATION.md §2.1).
 ghost use Rattle.std.specs.Prelude.{◌≡◌, ◌<◌, length};
-ghost use Rattle.table.specs.Rows.{tasks_of, broken, first_broken_lem, Wide, Row, Fit, FitRow};
+ghost use Rattle.table.specs.Rows.{tasks_of, broken, FirstBroken, Wide, Row, Fit, FitRow};
 ghost use Rattle.table.specs.Words.{words_with};
 
 // A row: C, the longest run (worst-case execution time); T, the least time between arrivals (period); D, the time from
@@ -49,17 +49,16 @@ pub fn count(words: &[u32]) -> usize
     words.len() / 3
 }
 
-// The first row that breaks its rule, or the number of rows where none does.
-pub fn first_broken(words: &[u32]) -> usize
-    ensures { result ≡ first_broken_lem (tasks_of words.now) }
+// The first row that breaks its rule, if one does.
+pub fn first_broken(words: &[u32]) -> Option<usize>
+    ensures { FirstBroken (tasks_of words.now) result }
 {
-    let n = count(words);
-    for i in 0..n {
+    for i in 0..count(words) {
         if breaks(words, i) {
-            return i;
+            return Some(i);
         }
     }
-    n
+    None
 }
 
 // Row i of a table whose rows keep their rule, which bounds its numbers. Internal: its callers have tested that.

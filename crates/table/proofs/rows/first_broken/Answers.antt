@@ -8,7 +8,7 @@ loop-i-init c = search (rules, first_laws)
 
 pub returns-then-breaks : goal.returns-then-breaks
 unfolding first_broken_lem
-returns-then-breaks c = search (rules, first_laws)
+returns-then-breaks c = (search (rules, first_laws), search rules)
 
 pub loop-i-preserved : goal.loop-i-preserved
 loop-i-preserved c = search (rules, first_laws)
