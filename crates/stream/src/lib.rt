@@ -57,12 +57,7 @@ pub fn serve<
     P: Print,
     G: Fn(usize) -> usize,
     F: Fn(&[u8], &mut [u8]) -> usize,
->(
-    reader: &mut R,
-    rt: &P,
-    room_for: G,
-    answer: F,
-)
+>(reader: &mut R, rt: &P, room_for: G, answer: F)
     requires input { INPUT < 2 ^ 63 }
     requires longest { LONGEST < 2 ^ 63 }
     requires room { G.IsAlwaysCallable room_for }

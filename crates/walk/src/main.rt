@@ -92,7 +92,10 @@ fn turn(w: Walk) -> Walk {
     let x = next(w.seed);
     let y = next(x);
     let z = next(y);
-    let mut v = counted(w, calls::arrive::arrive(w.session, u64::from(x / 65536 % 16)));
+    let mut v = counted(
+        w,
+        calls::arrive::arrive(w.session, u64::from(x / 65536 % 16)),
+    );
     v = counted(v, choice::choose(v.session, &[y / 65536, z / 65536]));
     let span = v.session.span;
     let step = if z / 65536 % 2 == 0 {
