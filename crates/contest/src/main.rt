@@ -2,10 +2,9 @@
 #![tactic(auto)]
 
 fn main(rt: HostRuntime) {
-    let mut input = [0u8; lesson::INPUT];
+    let mut input: [u8; lesson::INPUT] = stream::zeros();
     let n = stream::read_full(&mut rt.stdin(), &mut input);
-    let mut out = stream::large_buffer();
-    let r = lesson::contest(&input[..n], &mut out);
+    let mut out: [u8; 65536] = stream::zeros();
     // What cannot be written is lost.
-    let _ = rt.write_all(&out[..r]);
+    let _ = stream::respond(&rt, &input[..n], &mut out, &lesson::contest);
 }

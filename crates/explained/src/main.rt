@@ -7,8 +7,16 @@ ghost use Rattle.transcript.specs.Transcript.{input_limit};
 use std::io;
 
 // A function of its own, so that no proof about `main` has to spell out its zeros. Each word takes four bytes of the input.
+// `stream::zeros` is of bytes; over any element it would need what `Default` gives, and be no plainer.
 fn no_words() -> [u32; 16384] {
     [0; 16384]
+}
+
+// A function of its own: with `stream::zeros` in `main`, what `answer` requires was tried, and the proof did not close.
+fn buffer() -> [u8; 65536]
+    ensures { 65536 ≡ length result }
+{
+    stream::zeros()
 }
 
 // The output is longer than the buffer, so it is written a part at a time. Where a part cannot be written, no more is.
@@ -28,10 +36,10 @@ fn answer(rt: &impl Print, text: &[u8], words: &mut [u32], out: &mut [u8]) -> io
 
 // What cannot be written is lost.
 fn main(rt: HostRuntime) {
-    let mut input = stream::large_buffer();
+    let mut input = buffer();
     let n = stream::read_full(&mut rt.stdin(), &mut input);
     let text = &input[..n];
     let mut words = no_words();
-    let mut out = stream::large_buffer();
+    let mut out = buffer();
     let _ = answer(&rt, text, &mut words, &mut out);
 }

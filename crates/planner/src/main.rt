@@ -1,33 +1,11 @@
 // Gives what a planner wants to know of the table and the calls on standard input (docs/SPECIFICATION.md §14.4).
 #![tactic(auto)]
 
-use std::io;
-
-// Two functions of their own, so that no proof about `main` has to spell out their zeros.
-fn input_buffer() -> [u8; response::INPUT] {
-    [0; response::INPUT]
-}
-
-fn output_buffer() -> [u8; response::LONGEST] {
-    [0; response::LONGEST]
-}
-
-fn answer(rt: &impl Print, text: &[u8], out: &mut [u8]) -> io::Result<()> {
-    let r = response::plan(text, out);
-    rt.write_all(&out[..r])
-}
-
-// What cannot be written is lost.
 fn main(rt: HostRuntime) {
-    let mut input = input_buffer();
-    let n = stream::read_full(&mut rt.stdin(), &mut input);
-    let text = &input[..n];
-    // To clear the longest buffer takes longer than to answer a short input.
-    if response::room_for(n) <= 65536 {
-        let mut out = stream::large_buffer();
-        let _ = answer(&rt, text, &mut out);
-        return;
-    }
-    let mut out = output_buffer();
-    let _ = answer(&rt, text, &mut out);
+    stream::serve::<{ response::INPUT }, { response::LONGEST }, _, _, _, _>(
+        &mut rt.stdin(),
+        &rt,
+        response::room_for,
+        response::plan,
+    );
 }

@@ -5,14 +5,13 @@
 ghost use Rattle.std.specs.Prelude.{◌<◌, length};
 ghost use Rattle.replay.specs.Case.{Past};
 
-use decimal::read::{Number, read_number};
+use decimal::read::read_number;
 use lines::read::place;
 use std::io;
 
 // The bytes of one case.
 fn answer(rt: &impl Print, bytes: &[u8], out: &mut [u8]) -> io::Result<()> {
-    let r = transcript::transcribe(bytes, out);
-    rt.write_all(&out[..r])?;
+    stream::respond(rt, bytes, out, &transcript::transcribe)?;
     println!(rt; "--")
 }
 
@@ -22,9 +21,10 @@ fn case(rt: &impl Print, text: &[u8], at: usize, out: &mut [u8]) -> usize
     ensures { Past text.now at result }
 {
     let rest = &text[at..];
-    let e = place(rest, 10);
-    let number = read_number(&rest[..e]);
-    let Number::Of(k) = number else {
+    let Some(e) = place(rest, b'\n') else {
+        return text.len();
+    };
+    let Some(k) = read_number(&rest[..e]) else {
         return text.len();
     };
     let after = &rest[e..];
@@ -36,16 +36,11 @@ fn case(rt: &impl Print, text: &[u8], at: usize, out: &mut [u8]) -> usize
     at + e + n + 1
 }
 
-// A function of its own, so that no proof about `main` has to spell out its zeros.
-fn buffer() -> [u8; transcript::LONGEST] {
-    [0; transcript::LONGEST]
-}
-
 fn main(rt: HostRuntime) {
-    let mut input = stream::large_buffer();
+    let mut input: [u8; 65536] = stream::zeros();
     let n = stream::read_full(&mut rt.stdin(), &mut input);
     let text = &input[..n];
-    let mut out = buffer();
+    let mut out: [u8; transcript::LONGEST] = stream::zeros();
     let mut at: usize = 0;
     while at < text.len() {
         at = case(&rt, text, at, &mut out);

@@ -5,27 +5,17 @@
 
 ghost use Rattle.table.specs.Rows.{tasks_of, Fit};
 
+use std::fmt::Display;
 use std::io;
 use table::first::{Counted, first};
 
-fn put(rt: &impl Print, n: u64) -> io::Result<()> {
+fn put<D: Display + Drop>(rt: &impl Print, n: D) -> io::Result<()> {
     print!(rt; "{n}\t")
 }
 
-fn put_signed(rt: &impl Print, v: i64) -> io::Result<()> {
-    if table::budgets::below_zero(v) {
-        print!(rt; "-")?;
-    }
-    put(rt, table::budgets::magnitude(v))
-}
-
 fn put_budgets(rt: &impl Print, values: [i64; 16], rows: u64) -> io::Result<()> {
-    let mut i: usize = 0;
-    while i < 16 {
-        if (i as u64) < rows {
-            put_signed(rt, values[i])?;
-        }
-        i = i + 1;
+    for &v in &values[..rows.min(16) as usize] {
+        put(rt, v)?;
     }
     Ok(())
 }
@@ -54,19 +44,15 @@ fn put_sums(rt: &impl Print, words: &[u32]) -> io::Result<()>
 
 fn answer(rt: &impl Print, words: &[u32]) -> io::Result<()> {
     let a = table::opinion(words);
-    let verdict = a.verdict;
-    let budgets = a.budgets;
-    let n = table::shown(verdict);
+    let n = table::shown(a.verdict);
     put(rt, n.number)?;
     put(rt, n.first)?;
     put(rt, n.second)?;
     if n.number == 0 {
-        put_budgets(rt, budgets, n.second)?;
+        put_budgets(rt, a.budgets, n.second)?;
     }
-    if n.number != 1 {
-        if n.number != 2 {
-            put_sums(rt, words)?;
-        }
+    if n.number != 1 && n.number != 2 {
+        put_sums(rt, words)?;
     }
     println!(rt)
 }

@@ -8,7 +8,6 @@ ghost use Rattle.std.specs.Prelude.{◌<◌};
 
 use session::{Outcome, Session};
 use std::io;
-use table::rows::wide;
 
 fn put(rt: &impl Print, n: u64) -> io::Result<()> {
     print!(rt; "{n}\t")
@@ -20,8 +19,7 @@ fn end(rt: &impl Print) -> io::Result<()> {
 
 fn told(rt: &impl Print, o: Outcome, letter: &[u8]) -> io::Result<Session> {
     let s = o.session;
-    let answer = o.answer;
-    let n = session::show(answer);
+    let n = session::show(o.answer);
     put(rt, s.clock)?;
     rt.write_all(letter)?;
     rt.write_all(b"\t")?;
@@ -33,8 +31,7 @@ fn told(rt: &impl Print, o: Outcome, letter: &[u8]) -> io::Result<Session> {
 }
 
 fn fresh(words: &[u32]) -> Session {
-    let r = session::start::start(words);
-    r.session
+    session::start::start(words).session
 }
 
 fn listing(rt: &impl Print) -> io::Result<()> {
@@ -63,7 +60,7 @@ pub struct Walk {
 }
 
 fn next(x: u32) -> u32 {
-    ((wide(x) * 1664525 + 1013904223) % 4294967296) as u32
+    x.wrapping_mul(1664525).wrapping_add(1013904223)
 }
 
 fn modulo(n: u64) -> u64
@@ -72,22 +69,16 @@ fn modulo(n: u64) -> u64
     n % 1000000007
 }
 
-fn up(n: u64) -> u64 {
-    if n < 1000000000 { n + 1 } else { n }
-}
-
 // One more answer in the counts.
 fn counted(w: Walk, o: Outcome) -> Walk {
-    let answer = o.answer;
-    let n = session::show(answer);
+    let n = session::show(o.answer);
     let mut v = w;
-    let s = o.session;
-    v.session = s;
+    v.session = o.session;
     if n.number != 0 {
-        v.refused = up(v.refused);
+        v.refused = v.refused.saturating_add(1);
     }
     if n.number == 5 {
-        v.unsound = up(v.unsound);
+        v.unsound = v.unsound.saturating_add(1);
     }
     let a = modulo(n.number);
     let b = modulo(n.first);
@@ -101,7 +92,10 @@ fn turn(w: Walk) -> Walk {
     let x = next(w.seed);
     let y = next(x);
     let z = next(y);
-    let mut v = counted(w, calls::arrive::arrive(w.session, wide(x / 65536 % 16)));
+    let mut v = counted(
+        w,
+        calls::arrive::arrive(w.session, u64::from(x / 65536 % 16)),
+    );
     v = counted(v, choice::choose(v.session, &[y / 65536, z / 65536]));
     let span = v.session.span;
     let step = if z / 65536 % 2 == 0 {
@@ -118,18 +112,15 @@ fn turn(w: Walk) -> Walk {
 }
 
 fn play(rt: &impl Print, words: &[u32], turns: u64) -> io::Result<()> {
-    let s = fresh(words);
     let mut w = Walk {
-        session: s,
+        session: fresh(words),
         seed: 1,
         refused: 0,
         unsound: 0,
         sum: 0,
     };
-    let mut i: u64 = 0;
-    while i < turns {
+    for _ in 0..turns {
         w = turn(w);
-        i = i + 1;
     }
     put(rt, w.session.kind)?;
     put(rt, turns)?;
