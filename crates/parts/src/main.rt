@@ -29,7 +29,7 @@ fn put_brittle(rt: &impl Print, brittle: Option<u64>) -> io::Result<()> {
     Ok(())
 }
 
-// The deciding word after a 1, or two zeros.
+// The chosen row; then the deciding word after a 1, or two zeros.
 fn put_choice(rt: &impl Print, chosen: u64, decided: Option<u64>) -> io::Result<()> {
     let given = u64::from(decided.is_some());
     let word = decided.unwrap_or(0);
