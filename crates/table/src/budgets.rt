@@ -37,11 +37,9 @@ pub fn interfering(words: &[u32], inverses: &[u64; 16], i: usize, x: u64) -> u64
     ensures { Within 16000000000000 (interference (tasks_of words.now) i x) result }
 {
     let n = count(words);
-    let mut sum: u64 = 0;
-    let mut j: usize = 0;
-    while j < n {
-        sum = sum + charge(words, inverses, i, j, x);
-        j = j + 1;
+    let mut sum = 0;
+    for j in 0..n {
+        sum += charge(words, inverses, i, j, x);
     }
     sum
 }
@@ -114,15 +112,13 @@ pub fn all_budgets(words: &[u32], inverses: &[u64; 16]) -> Budgets
         loose: true,
         firm: false,
     };
-    let mut i: usize = 0;
-    while i < n {
+    for i in 0..n {
         let v = value_of(words, inverses, i);
         let negative = below_zero(v);
         b.values[i] = v;
         b.brittle[i] = negative;
         b.loose = still_loose(b.loose, negative);
         b.firm = now_firm(b.firm, negative);
-        i = i + 1;
     }
     b
 }

@@ -42,11 +42,9 @@ pub fn demand_at(words: &[u32], inverses: &[u64; 16], t: u64) -> u64
     ensures { Within 16000000000000 (demand (tasks_of words.now) t) result }
 {
     let n = count(words);
-    let mut sum: u64 = 0;
-    let mut i: usize = 0;
-    while i < n {
-        sum = sum + row_demand(words, inverses, i, t);
-        i = i + 1;
+    let mut sum = 0;
+    for i in 0..n {
+        sum += row_demand(words, inverses, i, t);
     }
     sum
 }

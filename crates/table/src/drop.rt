@@ -77,11 +77,9 @@ fn hold(words: &[u32], inverses: &[u64; 16], t: u64, b: u64) -> Holding
         leads: 0,
         held: 0,
     };
-    let mut i: usize = 0;
-    while i < n {
+    for i in 0..n {
         let k = prepare(words, inverses, i);
         h = with_row(h, k, t, b);
-        i = i + 1;
     }
     h
 }
@@ -127,14 +125,12 @@ fn drops(words: &[u32], inverses: &[u64; 16], t: u64, h: u64, u: u64) -> u64
     ensures { Lower (tasks_of words.now) t h result }
 {
     let mut at = u;
-    let mut turns: u64 = 0;
-    while turns < 4 {
+    for _ in 0..4 {
         let b = drop_at(words, inverses, t, at);
         if at <= b {
             return at;
         }
         at = b;
-        turns = turns + 1;
     }
     at
 }

@@ -21,11 +21,9 @@ pub fn inverses_of(words: &[u32]) -> [u64; 16]
 {
     let n = count(words);
     let mut inverses = [0u64; 16];
-    let mut i: usize = 0;
-    while i < n {
+    for i in 0..n {
         let k = fit_row(words, i);
         inverses[i] = inverse_of(k.period);
-        i = i + 1;
     }
     inverses
 }

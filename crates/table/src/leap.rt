@@ -62,11 +62,9 @@ fn fill(words: &[u32], inverses: &[u64; 16], r: u64, b: u64) -> Filling
         shares: 0,
         asked: 0,
     };
-    let mut i: usize = 0;
-    while i < n {
+    for i in 0..n {
         let k = prepare(words, inverses, i);
         f = with_row(f, k, r, b);
-        i = i + 1;
     }
     f
 }
@@ -109,14 +107,12 @@ fn leaps(words: &[u32], inverses: &[u64; 16], r: u64, next: u64) -> u64
     ensures { Further (tasks_of words.now) r next result }
 {
     let mut at = next;
-    let mut turns: u64 = 0;
-    while turns < 4 {
+    for _ in 0..4 {
         let b = leap_at(words, inverses, r, at);
         if b <= at {
             return at;
         }
         at = b;
-        turns = turns + 1;
     }
     at
 }

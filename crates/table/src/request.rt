@@ -40,11 +40,9 @@ pub fn requested(words: &[u32], inverses: &[u64; 16], x: u64) -> u64
     ensures { Within 16000000000000 (request (tasks_of words.now) x) result }
 {
     let n = count(words);
-    let mut sum: u64 = 0;
-    let mut i: usize = 0;
-    while i < n {
-        sum = sum + row_request(words, inverses, i, x);
-        i = i + 1;
+    let mut sum = 0;
+    for i in 0..n {
+        sum += row_request(words, inverses, i, x);
     }
     sum
 }

@@ -66,12 +66,10 @@ pub fn first_broken(words: &[u32]) -> usize
     ensures { result ≡ first_broken_lem (tasks_of words.now) }
 {
     let n = count(words);
-    let mut i: usize = 0;
-    while i < n {
+    for i in 0..n {
         if breaks(words, i) {
             return i;
         }
-        i = i + 1;
     }
     n
 }

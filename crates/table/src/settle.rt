@@ -37,13 +37,11 @@ fn part_of(words: &[u32], inverses: &[u64; 16], r: u64) -> u64
     requires { Fit (tasks_of words.now) × Inverses (tasks_of words.now) inverses.now × (9 ≤ r) × (r ≤ 1000000) × Settles (tasks_of words.now) r }
     ensures { Settles (tasks_of words.now) result }
 {
-    let mut m: u64 = 9;
-    while 1 < m {
+    for m in (2..10).rev() {
         let q = r / m;
         if requested(words, inverses, q) <= q {
             return q;
         }
-        m = m - 1;
     }
     r
 }

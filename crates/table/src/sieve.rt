@@ -52,10 +52,8 @@ fn mark(marks: &mut [u32], a: usize, stride: usize, c: u32)
     requires { Markable marks.old stride c }
     ensures { Marked marks.old marks.new a stride c }
 {
-    let mut x = a;
-    while x < 256 {
-        marks[x] = marks[x] + c;
-        x = x + stride;
+    for x in (a..256).step_by(stride) {
+        marks[x] += c;
     }
 }
 
@@ -80,15 +78,13 @@ fn lasts(marks: &[u32], s: u64) -> u64
     ensures { Lasts marks.now s result }
 {
     let mut sum = s;
-    let mut j: usize = 0;
-    while j < 128 {
+    for j in 0..128 {
         let m = wide(marks[2 * j]);
         let two = of_two(sum, (2 * j) as u64, m);
         if two < 2 {
             return (2 * j) as u64 + two;
         }
-        sum = sum + (m + wide(marks[2 * j + 1]));
-        j = j + 1;
+        sum += m + wide(marks[2 * j + 1]);
     }
     256
 }
@@ -100,12 +96,10 @@ pub fn sieve(words: &[u32], inverses: &[u64; 16], at: u64, back: bool, s: u64) -
 {
     let n = count(words);
     let mut marks = [0u32; 256];
-    let mut i: usize = 0;
-    while i < n {
+    for i in 0..n {
         let k = prepare(words, inverses, i);
         let a = place(k, at, back);
         mark(&mut marks, a as usize, k.period as usize, k.run as u32);
-        i = i + 1;
     }
     lasts(&marks, s)
 }

@@ -9,9 +9,6 @@ loop-j-init c = search (rules, total_laws)
 pub overflow_add-sum : goal.overflow_add-sum
 overflow_add-sum c = search (rules, total_laws)
 
-pub overflow_add-j : goal.overflow_add-j
-overflow_add-j c = search (rules, total_laws)
-
 pub loop-j-preserved : goal.loop-j-preserved
 loop-j-preserved c = search (rules, total_laws)
 

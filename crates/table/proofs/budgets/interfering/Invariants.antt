@@ -1,4 +1,4 @@
-use Rattle.std.proofs.Common.{◌*◌, ◌-◌, ◌≡◌, ◌≤◌}
+use Rattle.std.proofs.Common.{◌*◌, ◌≡◌, ◌≤◌}
 use Rattle.bounded.specs.Sum.{sum_to}
 use Rattle.bounded.specs.Besides.{besides}
 use Rattle.edf.specs.Demand.{row_request_lem}
@@ -6,7 +6,4 @@ use Rattle.table.specs.Rows.{tasks_of}
 use Rattle.table.proofs.budgets.interfering.Given as goal
 
 abbrev pub invariant-loop-j : goal.invariant-loop-j
-invariant-loop-j l = (l.j ≤ l.n) × (l.sum ≡ sum_to (besides (row_request_lem (tasks_of l.words) l.x) l.i) l.j) × (l.sum ≤ 1000000000000 * l.j)
-
-abbrev pub decreases-loop-j : goal.decreases-loop-j
-decreases-loop-j l = l.n - l.j
+invariant-loop-j l = (l.sum ≡ sum_to (besides (row_request_lem (tasks_of l.words) l.x) l.i) l.j) × (l.sum ≤ 1000000000000 * l.j)

@@ -1,11 +1,8 @@
-use Rattle.std.proofs.Common.{◌*◌, ◌-◌, ◌≡◌, ◌≤◌}
+use Rattle.std.proofs.Common.{◌*◌, ◌≡◌, ◌≤◌}
 use Rattle.bounded.specs.Sum.{sum_to}
 use Rattle.edf.specs.Demand.{row_demand_lem}
 use Rattle.table.specs.Rows.{tasks_of}
 use Rattle.table.proofs.demand.demand_at.Given as goal
 
 abbrev pub invariant-loop-i : goal.invariant-loop-i
-invariant-loop-i l = (l.i ≤ l.n) × (l.sum ≡ sum_to (row_demand_lem (tasks_of l.words) l.t) l.i) × (l.sum ≤ 1000000000000 * l.i)
-
-abbrev pub decreases-loop-i : goal.decreases-loop-i
-decreases-loop-i l = l.n - l.i
+invariant-loop-i l = (l.sum ≡ sum_to (row_demand_lem (tasks_of l.words) l.t) l.i) × (l.sum ≤ 1000000000000 * l.i)

@@ -1,10 +1,6 @@
-use Rattle.std.proofs.Common.{◌-◌, ◌≤◌}
 use Rattle.table.specs.Leap.{Filled}
 use Rattle.table.specs.Rows.{tasks_of}
 use Rattle.table.proofs.leap.fill.Given as goal
 
 abbrev pub invariant-loop-i : goal.invariant-loop-i
-invariant-loop-i l = (l.i ≤ l.n) × Filled (tasks_of l.words) l.r l.b l.i l.f
-
-abbrev pub decreases-loop-i : goal.decreases-loop-i
-decreases-loop-i l = l.n - l.i
+invariant-loop-i l = Filled (tasks_of l.words) l.r l.b l.i l.f

@@ -1,9 +1,7 @@
 use borrow.Author.Rules.{rules}
-use Rattle.table.specs.Settle.{part_laws}
+use Rattle.std.proofs.Common.{◌-◌}
+use Rattle.table.specs.Settle.{part_laws, part_found}
 use Rattle.table.proofs.settle.part_of.Goals as goal
-
-pub loop-m-init : goal.loop-m-init
-loop-m-init c = search (rules, part_laws)
 
 pub nonzero_div-q : goal.nonzero_div-q
 nonzero_div-q c = search (rules, part_laws)
@@ -12,13 +10,8 @@ pub requested-requires : goal.requested-requires
 requested-requires c = search (rules, part_laws)
 
 pub returns-then-requested-q : goal.returns-then-requested-q
-returns-then-requested-q c = search (rules, part_laws)
-
-pub overflow_sub-m : goal.overflow_sub-m
-overflow_sub-m c = search (rules, part_laws)
-
-pub loop-m-preserved : goal.loop-m-preserved
-loop-m-preserved c = search (rules, part_laws)
+returns-then-requested-q c =
+    part_found _ _ (c.loop-m.m - 1) (search rules) c.requested.result (search rules) (search rules) (search rules) (search rules) (search rules)
 
 pub returns : goal.returns
 returns c = search (rules, part_laws)

@@ -1,10 +1,6 @@
-use Rattle.std.proofs.Common.{◌-◌, ◌≤◌}
 use Rattle.table.specs.Rows.{tasks_of}
 use Rattle.table.specs.Sieve.{Sieving}
 use Rattle.table.proofs.sieve.sieve.Given as goal
 
 abbrev pub invariant-loop-i : goal.invariant-loop-i
-invariant-loop-i l = (l.i ≤ l.n) × Sieving (tasks_of l.words) l.at l.back l.i l.marks
-
-abbrev pub decreases-loop-i : goal.decreases-loop-i
-decreases-loop-i l = l.n - l.i
+invariant-loop-i l = Sieving (tasks_of l.words) l.at l.back l.i l.marks
