@@ -62,25 +62,6 @@ pub budget_is : (τ : TaskSet) (i s : ℕ) (k : Task) (v w : ℤ) → FitRow τ 
 unfolding budget_of
 budget_is τ i s k v w f h e d = let r = f.row in e ∙ d ∙ rw (h.is, r.deadline, r.run)
 
--- one row more, which is brittle or not
-pub loose_lost : (a m : Bool) → m ≡ true → false ≡ (a && not m)
-loose_lost true m e = simp e
-loose_lost false m e = refl
-
-pub loose_kept : (a m : Bool) → m ≡ false → a ≡ (a && not m)
-loose_kept true m e = simp e
-loose_kept false m e = refl
-
-pub firm_kept : (a m : Bool) → m ≡ true → a ≡ (a || not m)
-firm_kept true m e = refl
-firm_kept false m e = simp e
-
-pub firm_found : (a m : Bool) → m ≡ false → true ≡ (a || not m)
-firm_found true m e = refl
-firm_found false m e = simp e
-
-pub ruleset seen_cases = (loose_lost, loose_kept, firm_kept, firm_found)
-
 -- ---- the loop over the rows
 
 abbrev pub budgets_to : TaskSet → ℕ → Budgets

@@ -1,7 +1,7 @@
 -- The rows of a table and their rule (docs/SPECIFICATION.md §2.1). Assumes nothing.
-use Rattle.std.specs.Prelude.{ℕ, ◌+◌, ◌*◌, ◌/◌, ◌≤◌, ◌<◌, ◌^◌, ◌≡◌, Bool, true, false, not, ◌&&◌, List, leb, length, get_or}
+use Rattle.std.specs.Prelude.{ℕ, ◌+◌, ◌*◌, ◌/◌, ◌≤◌, ◌<◌, ◌^◌, ◌≡◌, Bool, false, not, ◌&&◌, List, leb, length, get_or}
 use Rattle.std.proofs.Common.{arith}
-use borrow.Author.Tests.{le-leb, lt-leb, leb-true, not-false}
+use borrow.Author.Tests.{leb-true, not-false}
 use Rattle.bounded.specs.Tests.{and-true}
 use Rattle.bounded.specs.Least.{least_from, least_before}
 use Rattle.edf.specs.Demand.{TaskSet, Lawful}
@@ -46,44 +46,6 @@ pub record Row (τ : TaskSet) (i : ℕ) (k : Task) : Type 0 where
 pub row_is : (l : List ℕ) (i a b c : ℕ) → a ≡ get_or l (3 * i) 0 → b ≡ get_or l (3 * i + 1) 0 → c ≡ get_or l (3 * i + 2) 0 → Row (tasks_of l) i (record { run = a; period = b; deadline = c })
 unfolding tasks_of
 row_is l i a b c p q r = record { run = p; period = q; deadline = r }
-
--- ---- the rule's cases, as the code tests them
-
-module _ (τ : TaskSet) (i : ℕ) (k : Task) (r : Row τ i k) where
-  pub broken_run : k.run < 1 → true ≡ broken τ i
-  unfolding broken row_rule
-  broken_run a = simp (lt-leb 1 (τ.C i) (omega arith))
-
-  pub broken_deadline : 1 ≤ k.run → k.deadline < k.run → true ≡ broken τ i
-  unfolding broken row_rule
-  broken_deadline a b = simp (le-leb 1 (τ.C i) (omega arith), lt-leb (τ.C i) (τ.D i) (omega arith))
-
-  pub broken_period : 1 ≤ k.run → k.run ≤ k.deadline → k.period < k.deadline → true ≡ broken τ i
-  unfolding broken row_rule
-  broken_period a b c =
-      simp (le-leb 1 (τ.C i) (omega arith), le-leb (τ.C i) (τ.D i) (omega arith), lt-leb (τ.D i) (τ.T i) (omega arith))
-
-  pub broken_long : 1 ≤ k.run → k.run ≤ k.deadline → k.deadline ≤ k.period → horizon < k.period → true ≡ broken τ i
-  unfolding broken row_rule
-  broken_long a b c d =
-      simp (
-        le-leb 1 (τ.C i) (omega arith),
-        le-leb (τ.C i) (τ.D i) (omega arith),
-        le-leb (τ.D i) (τ.T i) (omega arith),
-        lt-leb (τ.T i) horizon (omega arith),
-      )
-
-  pub broken_not : 1 ≤ k.run → k.run ≤ k.deadline → k.deadline ≤ k.period → k.period ≤ horizon → false ≡ broken τ i
-  unfolding broken row_rule
-  broken_not a b c d =
-      simp (
-        le-leb 1 (τ.C i) (omega arith),
-        le-leb (τ.C i) (τ.D i) (omega arith),
-        le-leb (τ.D i) (τ.T i) (omega arith),
-        le-leb (τ.T i) horizon (omega arith),
-      )
-
-pub ruleset broken_cases = (broken_run, broken_deadline, broken_period, broken_long, broken_not)
 
 -- ---- a table of 1 to 16 rows that keep their rule
 

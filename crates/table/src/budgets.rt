@@ -62,11 +62,7 @@ pub fn below_zero(v: i64) -> bool
 pub fn magnitude(v: i64) -> u64
     ensures { result ≡ nat_abs v }
 {
-    if v < 0 {
-        let m = -1 - v;
-        return (m as u64) + 1;
-    }
-    v as u64
+    v.unsigned_abs()
 }
 
 // V of row i: D, less C, less what the others can take until the deadline. Internal: its callers have tested the rows, or have
@@ -78,26 +74,6 @@ pub fn value_of(words: &[u32], inverses: &[u64; 16], i: usize) -> i64
     let k = fit_row(words, i);
     let sum = interfering(words, inverses, i, k.deadline);
     minus(k.deadline, k.run, sum)
-}
-
-// Whether no row so far is brittle, a, and not the next one either.
-fn still_loose(a: bool, negative: bool) -> bool
-    ensures { result ≡ a && not negative }
-{
-    if negative {
-        return false;
-    }
-    a
-}
-
-// Whether some row so far is not brittle, a, or the next one is not.
-fn now_firm(a: bool, negative: bool) -> bool
-    ensures { result ≡ a || not negative }
-{
-    if negative {
-        return a;
-    }
-    true
 }
 
 // V of every row. Internal: `opinion` tests the rows first, which keeps each sum from wrapping.
@@ -114,11 +90,11 @@ pub fn all_budgets(words: &[u32], inverses: &[u64; 16]) -> Budgets
     };
     for i in 0..n {
         let v = value_of(words, inverses, i);
-        let negative = below_zero(v);
+        let negative = v < 0;
         b.values[i] = v;
         b.brittle[i] = negative;
-        b.loose = still_loose(b.loose, negative);
-        b.firm = now_firm(b.firm, negative);
+        b.loose = b.loose && !negative;
+        b.firm = b.firm || !negative;
     }
     b
 }

@@ -13,7 +13,6 @@ use super::demand::{jobs_by, owe};
 use super::inverse::{Prepared, prepare};
 use super::rows::count;
 use super::sieve::sieve;
-use bounded::less;
 
 // Rows with a deadline after some tick, counted by their shares of time, in parts of 2 to the 32nd and rounded up, and by
 // what they are ahead by, since their deadlines come before their periods' ends; and what is due of the others.
@@ -102,7 +101,7 @@ fn reached(t: u64, v: u64, e: u64, w: u64) -> u64
     }
     let m = e + 4294967296 * w;
     if v < 4294967296 {
-        return less(m, 4294967296) / (4294967296 - v);
+        return m.saturating_sub(4294967296) / (4294967296 - v);
     }
     if m + surplus(t, v) < 4294967296 {
         return 0;
@@ -151,7 +150,7 @@ pub fn lower(words: &[u32], inverses: &[u64; 16], t: u64, h: u64, sums: u64, lag
     requires { Fit (tasks_of words.now) × Inverses (tasks_of words.now) inverses.now × (t ≤ 1000000) × (h ≤ t) × Lag (t - h) lag × Within 16000000000000 (demand (tasks_of words.now) t) h }
     ensures { Lower (tasks_of words.now) t h result }
 {
-    let u = less(h, 1);
+    let u = h.saturating_sub(1);
     if sums % 64 == 16 {
         return drops(words, inverses, t, h, u);
     }

@@ -1,6 +1,6 @@
 // A lower bound on every busy length, from the rows' utilisation (docs/SPECIFICATION.md §2.4): where the iteration would
 // take many short steps, it goes on from here, or sieves the ticks.
-ghost use Rattle.std.specs.Prelude.{◌≡◌, ◌-◌, ◌*◌, ◌≤◌, ◌<◌, min, ltb};
+ghost use Rattle.std.specs.Prelude.{◌≡◌, ◌-◌, ◌*◌, ◌≤◌, ◌<◌, ltb};
 ghost use Rattle.bounded.specs.Quotient.{ceil_div};
 ghost use Rattle.edf.specs.Demand.{request};
 ghost use Rattle.table.specs.Rows.{tasks_of, Fit};
@@ -69,12 +69,6 @@ fn fill(words: &[u32], inverses: &[u64; 16], r: u64, b: u64) -> Filling
     f
 }
 
-fn least(w: u64) -> u64
-    ensures { result ≡ min w 1000001 }
-{
-    if w < 1000001 { w } else { 1000001 }
-}
-
 // The stretch that work w fills beside the shares u.
 fn filled(u: u64, w: u64) -> u64
     ensures { result ≡ leap_by u w }
@@ -88,7 +82,7 @@ fn filled(u: u64, w: u64) -> u64
     if 4294967296 <= u {
         return 1000001;
     }
-    let m = least(w);
+    let m = w.min(1000001);
     4294967296 * m / (4294967296 - u)
 }
 

@@ -106,20 +106,14 @@ fn refused(verdict: Verdict) -> Judgement
 fn ill_sized(n: usize) -> bool
     ensures { result ≡ bad_length n }
 {
-    if n == 0 {
-        return true;
-    }
-    if 48 < n {
-        return true;
-    }
-    n % 3 != 0
+    n == 0 || 48 < n || n % 3 != 0
 }
 
 // The end of the compared range: the busy length, or 1,000,000 if that is less.
 pub fn compared(busy: u64) -> u64
     ensures { result ≡ min busy 1000000 }
 {
-    if busy < 1000000 { busy } else { 1000000 }
+    busy.min(1000000)
 }
 
 // The opinion on rows that keep their rule.

@@ -24,9 +24,9 @@ pub fn row_at(words: &[u32], i: usize) -> Task
     ensures { Row (tasks_of words.now) i result }
 {
     let at = 3 * i;
-    let run = wide(words[at]);
-    let period = wide(words[at + 1]);
-    let deadline = wide(words[at + 2]);
+    let run = u64::from(words[at]);
+    let period = u64::from(words[at + 1]);
+    let deadline = u64::from(words[at + 2]);
     Task {
         run,
         period,
@@ -40,19 +40,7 @@ fn breaks(words: &[u32], i: usize) -> bool
     ensures { result ≡ broken (tasks_of words.now) i }
 {
     let k = row_at(words, i);
-    if k.run < 1 {
-        return true;
-    }
-    if k.deadline < k.run {
-        return true;
-    }
-    if k.period < k.deadline {
-        return true;
-    }
-    if 1000000 < k.period {
-        return true;
-    }
-    false
+    k.run < 1 || k.deadline < k.run || k.period < k.deadline || 1000000 < k.period
 }
 
 pub fn count(words: &[u32]) -> usize

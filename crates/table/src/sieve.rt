@@ -10,8 +10,7 @@ ghost use Rattle.table.specs.Sieve.{since_by, until_by, place_by, Markable, Mark
 use super::demand::jobs_by;
 use super::inverse::{Prepared, prepare};
 use super::request::ceiling;
-use super::rows::{count, wide};
-use bounded::less;
+use super::rows::count;
 
 // By how many ticks the steps lag behind a sieve of the same cost, 0 to 256, after one step more: a sum over n rows costs about
 // as much as n ticks of the sieve. At 256 the sieve is the faster way. Internal: no table has more rows.
@@ -19,8 +18,7 @@ pub fn lag_after(n: usize, step: u64, lag: u64) -> u64
     requires { (n ≤ 16) × (lag ≤ 256) }
     ensures { Lag step result }
 {
-    let behind = less(lag + (n as u64), step);
-    if behind < 256 { behind } else { 256 }
+    (lag + n as u64).saturating_sub(step).min(256)
 }
 
 // The ticks up to t since the last deadline that the row k can have.
@@ -79,12 +77,12 @@ fn lasts(marks: &[u32], s: u64) -> u64
 {
     let mut sum = s;
     for j in 0..128 {
-        let m = wide(marks[2 * j]);
+        let m = u64::from(marks[2 * j]);
         let two = of_two(sum, (2 * j) as u64, m);
         if two < 2 {
             return (2 * j) as u64 + two;
         }
-        sum += m + wide(marks[2 * j + 1]);
+        sum += m + u64::from(marks[2 * j + 1]);
     }
     256
 }

@@ -1,12 +1,11 @@
 use borrow.Author.Rules.{rules}
-use Rattle.table.specs.Opinion.{length_cases}
+use Rattle.table.specs.Verdict.{bad_length}
 use Rattle.table.proofs.ill_sized.Goals as goal
 
-pub returns-then-n-eq0 : goal.returns-then-n-eq0
-returns-then-n-eq0 c = search (rules, length_cases)
-
 pub returns-then-n-gt48 : goal.returns-then-n-gt48
-returns-then-n-gt48 c = search (rules, length_cases)
+unfolding bad_length
+returns-then-n-gt48 c = search rules
 
-pub returns : goal.returns
-returns c = search (rules, length_cases)
+pub returns-else-n-gt48 : goal.returns-else-n-gt48
+unfolding bad_length
+returns-else-n-gt48 c = search rules
