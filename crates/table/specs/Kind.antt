@@ -1,8 +1,8 @@
 -- What a session's check asks of a table, its kind and which rows are brittle, and the cases of its code
 -- (docs/SPECIFICATION.md §5.2). Assumes nothing.
 -- ---- the code's ways out, for rows that keep their rule
-use Rattle.std.specs.Prelude.{ℕ, ◌≤◌, ◌<◌, ◌≡◌, refl, Bool, List, eqb, length}
-use Rattle.std.proofs.Common.{sym, ◌∙◌, arith}
+use Rattle.std.specs.Prelude.{ℕ, ◌≤◌, ◌<◌, ◌≡◌, refl, Bool, List, Option, Some, None, is_some, eqb, length}
+use Rattle.std.proofs.Common.{sym, ◌∙◌, true≢false, arith}
 use Rattle.std.proofs.Math.Path.{ap}
 use Rattle.std.proofs.Math.Bool.{true, false}
 use borrow.Author.Tests.{eqb-true, lt-ltb, le-ltb}
@@ -16,7 +16,7 @@ use Rattle.table.specs.Budgets.{marks_of, budgets_of}
 use Rattle.table.specs.Overload as search
 use Rattle.table.specs.Verdict.{bad_length, heavy_kind, overloaded, settled, judged_of, opinion_of, kind_in, kind_of}
 use Rattle.table.specs.Opinion.{is_loose_lem, is_marks, heavy_kind_lem}
-use Rattle.table.specs.Settle.{found, none, Settles, unsettled_by, settled_by, fits_by, over_by}
+use Rattle.table.specs.Settle.{found, Settles, unsettled_by, settled_by, fits_by, over_by}
 
 abbrev pub fit_kind_lem : TaskSet → Kind
 fit_kind_lem τ = record { number = kind_in (judged_of τ); brittle = marks_of τ }
@@ -29,41 +29,36 @@ module _ (τ : TaskSet) (fit : Fit τ) (b : Budgets) (e : b ≡ budgets_of τ) w
   unfolding judged_of
   kind_loose t = with_marks 1 (simp (sym (is_loose_lem τ b e) ∙ t))
 
-  module _ (x : ℕ) (s : Settles τ x) (no : b.loose ≡ false) where
-    pub kind_unsettled : 1000000 < x → record { number = 0; brittle = b.brittle } ≡ fit_kind_lem τ
+  module _ (no : b.loose ≡ false) where
+    pub kind_unsettled : Settles τ None → record { number = 0; brittle = b.brittle } ≡ fit_kind_lem τ
     unfolding judged_of
-    kind_unsettled h =
+    kind_unsettled s =
+        let u = unsettled_by τ fit s in
         with_marks 0
-        (both (overloaded τ) (λ o. simp (sym (is_loose_lem τ b e) ∙ no, o)) (λ o. simp (sym (is_loose_lem τ b e) ∙ no, o, unsettled s h)))
-      where
-        unsettled : {x : ℕ} → Settles τ x → 1000000 < x → settled τ ≡ false
-        unsettled (found l h k) p = absurd (omega arith)
-        unsettled (none k) p = unsettled_by τ fit (none k)
+        (both (overloaded τ) (λ o. simp (sym (is_loose_lem τ b e) ∙ no, o)) (λ o. simp (sym (is_loose_lem τ b e) ∙ no, o, u)))
 
-    module _ (h : x ≤ 1000000) (f : Found) (r : search.Searched τ 0 x f) where
-      pub kind_over : (f.at ≡ 0 → ⊥) → record { number = 0; brittle = b.brittle } ≡ fit_kind_lem τ
+    module _ (x n : ℕ) (s : Settles τ (Some x)) (o : Option Found) (r : search.Searched τ 0 x o n) where
+      pub kind_over : is_some o ≡ true → record { number = 0; brittle = b.brittle } ≡ fit_kind_lem τ
       unfolding judged_of
-      kind_over ne = with_marks 0 (simp (sym (is_loose_lem τ b e) ∙ no, by s h r))
+      kind_over t = with_marks 0 (simp (sym (is_loose_lem τ b e) ∙ no, by s r t))
         where
-          by : {x : ℕ} → Settles τ x → x ≤ 1000000 → search.Searched τ 0 x f → overloaded τ ≡ true
-          by {x} (found l m k) p (search.over o) = over_by τ fit x l m k f.at (omega (arith, o.is, o.over))
-          by (found l m k) p (search.none z c g) = absurd (ne z)
-          by (none k) p o = absurd (omega arith)
+          by : {o : Option Found} → Settles τ (Some x) → search.Searched τ 0 x o n → is_some o ≡ true → overloaded τ ≡ true
+          by (found l m k) (search.over {f} w) t = over_by τ fit x l m k f.at (omega (arith, w.is, w.over))
+          by (found l m k) (search.none c g) t = absurd (true≢false (sym t))
 
       -- the kind k of a table that is not loose
-      kind_heavy : f.at ≡ 0 → (k : ℕ) → heavy_kind τ ≡ k → k ≡ kind_in (judged_of τ)
+      kind_heavy : is_some o ≡ false → (k : ℕ) → heavy_kind τ ≡ k → k ≡ kind_in (judged_of τ)
       unfolding judged_of
-      kind_heavy z k q = let w = by s h r in simp (sym (is_loose_lem τ b e) ∙ no, w.0, w.1, q)
+      kind_heavy z k q = let w = by s r z in simp (sym (is_loose_lem τ b e) ∙ no, w.0, w.1, q)
         where
-          by : {x : ℕ} → Settles τ x → x ≤ 1000000 → search.Searched τ 0 x f → (overloaded τ ≡ false) × (settled τ ≡ true)
-          by (found l m k) p (search.over o) = absurd (omega (arith, o.low))
-          by (found l m k) p (search.none z c g) = (fits_by τ fit _ l m k g, settled_by τ fit _ l m k)
-          by (none k) p o = absurd (omega arith)
+          by : {o : Option Found} → Settles τ (Some x) → search.Searched τ 0 x o n → is_some o ≡ false → (overloaded τ ≡ false) × (settled τ ≡ true)
+          by (found l m k) (search.over w) z = absurd (true≢false z)
+          by (found l m k) (search.none c g) z = (fits_by τ fit _ l m k g, settled_by τ fit _ l m k)
 
-      pub kind_mixed : f.at ≡ 0 → b.firm ≡ true → record { number = 3; brittle = b.brittle } ≡ fit_kind_lem τ
+      pub kind_mixed : is_some o ≡ false → b.firm ≡ true → record { number = 3; brittle = b.brittle } ≡ fit_kind_lem τ
       kind_mixed z t = with_marks 3 (kind_heavy z 3 (heavy_kind_lem τ b e true t))
 
-      pub kind_tight : f.at ≡ 0 → b.firm ≡ false → record { number = 2; brittle = b.brittle } ≡ fit_kind_lem τ
+      pub kind_tight : is_some o ≡ false → b.firm ≡ false → record { number = 2; brittle = b.brittle } ≡ fit_kind_lem τ
       kind_tight z t = with_marks 2 (kind_heavy z 2 (heavy_kind_lem τ b e false t))
 
 pub ruleset kind_fit_cases = (kind_loose, kind_unsettled, kind_over, kind_mixed, kind_tight)

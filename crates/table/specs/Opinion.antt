@@ -1,6 +1,6 @@
 -- What `opinion` promises, and the cases of its code. Assumes nothing.
 use Prim.Native.Nat.{ℕ, ◌%◌, ◌≤◌, ◌<◌, min}
-use Rattle.std.specs.Prelude.{◌≡◌, refl, Bool, true, false, not, List, [], ltb, eqb, ℤ, pos, length, replicate}
+use Rattle.std.specs.Prelude.{◌≡◌, refl, Bool, true, false, not, List, [], Option, Some, None, is_none, ltb, eqb, ℤ, pos, length, replicate}
 use Rattle.std.proofs.Math.Path.{sym, ap}
 use Rattle.std.proofs.Common.{◌∙◌, true≢false, arith}
 use Rattle.std.proofs.Math.Bool.{cond}
@@ -15,9 +15,10 @@ use Rattle.table.specs.declared.Judgement.{Judgement}
 use Rattle.table.specs.declared.budgets.Budgets.{Budgets}
 use Rattle.table.specs.declared.busy.Busy.{Busy}
 use Rattle.table.specs.declared.overload.Found.{Found}
+use Rattle.table.specs.declared.first.Counted.{Counted}
 use Rattle.table.specs.Rows.{horizon, tasks_of, first_broken_lem, Fit, fit_of}
 use Rattle.table.specs.Budgets.{loose, values_of, marks_of, budgets_of}
-use Rattle.table.specs.Busy.{busy_length, Settled}
+use Rattle.table.specs.Busy.{busy_length, or_past, Settled, length_some, length_none}
 use Rattle.table.specs.Overload.{Searched, over, none}
 use Rattle.table.specs.First.{First}
 use Rattle.table.specs.Verdict.{Opinion, admitted, bad_length, compared_to, first_overload, overloaded, settled, heavy_kind, judged_of, opinion_of}
@@ -176,47 +177,44 @@ module _ (τ : TaskSet) (b : Budgets) (e : b ≡ budgets_of τ) where
   unfolding judged_of
   judge_loose n h t = simp (sym is_loose_lem ∙ t, h, is_values)
 
-  module _ (y : Busy) (s : Settled τ y) (end : ℕ) (m : end ≡ min y.length 1000000) (f : Found) (r : Searched τ 0 end f) (no : b.loose ≡ false) where
+  module _ (y : Busy) (s : Settled τ y) (end : ℕ) (m : end ≡ min (or_past y.length) 1000000) (no : b.loose ≡ false) where
     is_compared : end ≡ compared_to τ
     unfolding compared_to
     is_compared = m ∙ ap (λ (z : ℕ). min z 1000000) s.is
 
-    found_none : f.at ≡ 0 → overloaded τ ≡ false
-    found_none z = by r
-      where
-        by : Searched τ 0 end f → overloaded τ ≡ false
-        by (over x) = absurd (omega (arith, x.low))
-        by (none e c g) = overloaded_none τ (λ x p q. g x p (omega (arith, is_compared)))
-
-    found_over : (f.at ≡ 0 → ⊥) → f.at ≤ compared_to τ
-    found_over ne = by r
-      where
-        by : Searched τ 0 end f → f.at ≤ compared_to τ
-        by (over x) = omega (arith, x.high, is_compared)
-        by (none e c g) = absurd (ne e)
-
-    pub judge_overload : (a : Judgement) (g : Found) → (f.at ≡ 0 → ⊥) → First τ f g → a ≡ refused_of (Overload g.at g.demand) → shown_of a ≡ judged_of τ
+    pub judge_overload : (a : Judgement) (f : Found) (n : ℕ) (g : Counted) → Searched τ 0 end (Some f) n → First τ (record { found = f; sums = n }) g
+        → a ≡ refused_of (Overload g.found.at g.found.demand) → shown_of a ≡ judged_of τ
     unfolding judged_of
-    judge_overload a g ne w e =
-        let h = overloaded_first τ g.at w.low (omega (arith, w.high, found_over ne)) (omega (arith, w.is, w.over)) w.before in
+    judge_overload a f n g (over x) w e =
+        let h = overloaded_first τ g.found.at w.low (omega (arith, w.high, x.high, is_compared)) (omega (arith, w.is, w.over)) w.before in
         simp (e, sym is_loose_lem ∙ no, h.1, w.is, h.0)
 
-    pub judge_unsettled : (a : Judgement) → f.at ≡ 0 → 1000000 < y.length → a ≡ refused_of Unsettled → shown_of a ≡ judged_of τ
-    unfolding judged_of settled
-    judge_unsettled a z h g = simp (g, sym is_loose_lem ∙ no, found_none z, lt-leb (busy_length τ) horizon (omega (arith, s.is)))
+    module _ (n : ℕ) (o : Option Found) (r : Searched τ 0 end o n) (z : o ≡ None) where
+      found_none : overloaded τ ≡ false
+      found_none = by r z
+        where
+          by : {o : Option Found} → Searched τ 0 end o n → o ≡ None → overloaded τ ≡ false
+          by (over x) z = cc
+          by (none c g) z = overloaded_none τ (λ x p q. g x p (omega (arith, is_compared)))
 
-    -- the kind k of a table that is not loose
-    judge_heavy : (k : ℕ) → heavy_kind τ ≡ k → f.at ≡ 0 → y.length ≤ 1000000 → admitted k τ ≡ judged_of τ
-    unfolding judged_of settled
-    judge_heavy k q z h = simp (sym is_loose_lem ∙ no, found_none z, le-leb (busy_length τ) horizon (omega (arith, s.is)), q)
+      pub judge_unsettled : (a : Judgement) → is_none y.length ≡ true → a ≡ refused_of Unsettled → shown_of a ≡ judged_of τ
+      unfolding judged_of settled
+      judge_unsettled a h g =
+          simp (g, sym is_loose_lem ∙ no, found_none, lt-leb (busy_length τ) horizon (length_none τ y s h))
 
-    pub judge_mixed : (n : ℕ) → n ≡ τ.rows → f.at ≡ 0 → y.length ≤ 1000000 → b.firm ≡ true
-        → shown_of (record { verdict = Mixed n; budgets = b.values }) ≡ judged_of τ
-    judge_mixed n k z h t = rw (k, is_values) (judge_heavy 3 (heavy_kind_lem true t) z h)
+      -- the kind k of a table that is not loose
+      judge_heavy : (k : ℕ) → heavy_kind τ ≡ k → is_none y.length ≡ false → admitted k τ ≡ judged_of τ
+      unfolding judged_of settled
+      judge_heavy k q h =
+          simp (sym is_loose_lem ∙ no, found_none, le-leb (busy_length τ) horizon (length_some τ y s h), q)
 
-    pub judge_tight : (n : ℕ) → n ≡ τ.rows → f.at ≡ 0 → y.length ≤ 1000000 → b.firm ≡ false
-        → shown_of (record { verdict = Tight n; budgets = b.values }) ≡ judged_of τ
-    judge_tight n k z h t = rw (k, is_values) (judge_heavy 2 (heavy_kind_lem false t) z h)
+      pub judge_mixed : (n : ℕ) → n ≡ τ.rows → is_none y.length ≡ false → b.firm ≡ true
+          → shown_of (record { verdict = Mixed n; budgets = b.values }) ≡ judged_of τ
+      judge_mixed n k h t = rw (k, is_values) (judge_heavy 3 (heavy_kind_lem true t) h)
+
+      pub judge_tight : (n : ℕ) → n ≡ τ.rows → is_none y.length ≡ false → b.firm ≡ false
+          → shown_of (record { verdict = Tight n; budgets = b.values }) ≡ judged_of τ
+      judge_tight n k h t = rw (k, is_values) (judge_heavy 2 (heavy_kind_lem false t) h)
 
 pub ruleset judge_cases = (judge_loose, judge_overload, judge_unsettled, judge_mixed, judge_tight)
 

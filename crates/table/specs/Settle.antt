@@ -1,6 +1,6 @@
 -- Whether there is a busy length up to 1,000,000, by a stretch that is no shorter than its request (docs/SPECIFICATION.md
 -- §2.4), and what is then enough to compare. Assumes nothing.
-use Rattle.std.specs.Prelude.{ℕ, ◌+◌, ◌-◌, ◌/◌, ◌≤◌, ◌<◌, ◌≡◌, false}
+use Rattle.std.specs.Prelude.{ℕ, ◌+◌, ◌-◌, ◌/◌, ◌≤◌, ◌<◌, ◌≡◌, false, Option, Some, None}
 use Rattle.std.proofs.Math.Bool.{true}
 use Rattle.std.proofs.Math.Logic.{dite}
 use Rattle.std.proofs.Common.{⊎_elim, arith, div-le_self, le-div_iff_mul-le}
@@ -17,13 +17,13 @@ use Rattle.table.specs.Verdict.{compared_to, overloaded, settled}
 use Rattle.table.specs.Opinion.{overloaded_none}
 use Rattle.table.specs.Theorems.{settled_fits}
 
--- x is a stretch from a to e that is no shorter than its request; or 1,000,001, and there is none
-pub data Climbed (τ : TaskSet) (a e : ℕ) : ℕ → Type 0 where
-  found : {x : ℕ} → a ≤ x → x ≤ e → request τ x ≤ x → Climbed τ a e x
-  none : ((q : ℕ) → a ≤ q → q ≤ e → request τ q ≤ q → ⊥) → Climbed τ a e 1000001
+-- x is a stretch from a to e that is no shorter than its request; or there is none
+pub data Climbed (τ : TaskSet) (a e : ℕ) : Option ℕ → Type 0 where
+  found : {x : ℕ} → a ≤ x → x ≤ e → request τ x ≤ x → Climbed τ a e (Some x)
+  none : ((q : ℕ) → a ≤ q → q ≤ e → request τ q ≤ q → ⊥) → Climbed τ a e None
 
 -- the same up to 1,000,000
-abbrev pub Settles : TaskSet → ℕ → Type 0
+abbrev pub Settles : TaskSet → Option ℕ → Type 0
 Settles τ x = Climbed τ 1 horizon x
 
 -- ---- the loop that climbs: no such stretch from a on is below r
@@ -38,11 +38,11 @@ module _ (τ : TaskSet) (fit : Fit τ) (a : ℕ) where
   rising_start = record { low = omega arith; counted = omega arith; clear = λ q l h. l }
 
   module _ (e r n : ℕ) (g : Rising τ a r n) where
-    pub rising_end : e < r → Climbed τ a e 1000001
+    pub rising_end : e < r → Climbed τ a e None
     rising_end l = none (λ q p h k. omega (arith, g.clear q p k))
 
     module _ (x : ℕ) (w : Within 16000000000000 (request τ r) x) where
-      pub rising_found : r ≤ e → x ≤ r → Climbed τ a e r
+      pub rising_found : r ≤ e → x ≤ r → Climbed τ a e (Some r)
       rising_found l h = found g.low l (omega (arith, w.is))
 
       pub rising_next : (y : ℕ) → r < x → Further τ r x y → Rising τ a y (n + 1)
@@ -67,32 +67,27 @@ pub record NonePast (τ : TaskSet) (e : ℕ) : Type 0 where
   pub far : (q : ℕ) → e < q → q ≤ horizon → request τ q ≤ q → ⊥
 
 module _ (τ : TaskSet) where
-  pub past_found : (e x : ℕ) → e ≤ horizon → Climbed τ 1 e x → x ≤ e → Settles τ x
-  past_found e x h (found a b k) l = found a (omega arith) k
-  past_found e x h (none k) l = absurd (omega arith)
+  pub past_found : (e x : ℕ) → e ≤ horizon → Climbed τ 1 e (Some x) → Settles τ (Some x)
+  past_found e x h (found a b k) = found a (omega arith) k
 
-  pub past_start : (x : ℕ) → Climbed τ 1 100000 x → 100000 < x → NonePast τ 1000000
-  past_start x (found a b k) l = absurd (omega arith)
-  past_start x (none k) l = record { high = omega arith; near = k; far = λ q a b. absurd (omega arith) }
+  pub past_start : Climbed τ 1 100000 None → NonePast τ 1000000
+  past_start (none k) = record { high = omega arith; near = k; far = λ q a b. absurd (omega arith) }
 
   module _ (e : ℕ) (p : NonePast τ e) where
-    pub past_at : (x : ℕ) → 100000 < e → Climbed τ (e - 49999) e x → x ≤ e → Settles τ x
-    past_at x o (found a b k) l = found {x = x} (omega arith) (omega (arith, p.high)) k
-    past_at x o (none k) l = absurd (omega (arith, p.high))
+    pub past_at : (x : ℕ) → 100000 < e → Climbed τ (e - 49999) e (Some x) → Settles τ (Some x)
+    past_at x o (found a b k) = found (omega arith) (omega (arith, p.high)) k
 
-    pub past_low : (x : ℕ) → 100000 < e → Climbed τ (e - 49999) e x → 9 ≤ x
-    past_low x o (found a b k) = omega arith
-    past_low x o (none k) = omega arith
+    pub past_low : (x : ℕ) → 100000 < e → Climbed τ (e - 49999) e (Some x) → (9 ≤ x) × (x ≤ 1000000)
+    past_low x o (found a b k) = (omega arith, omega (arith, p.high))
 
-    pub past_next : (x : ℕ) → 100000 < e → Climbed τ (e - 49999) e x → e < x → NonePast τ (e - 50000)
-    past_next x o (found a b k) l = absurd (omega arith)
-    past_next x o (none k) l = record {
+    pub past_next : 100000 < e → Climbed τ (e - 49999) e None → NonePast τ (e - 50000)
+    past_next o (none k) = record {
       high = omega (arith, p.high);
       near = p.near;
       far = λ q a b. dite (dec_le q e) (λ m. k q (omega arith) m) (λ m. p.far q (omega arith) b);
     }
 
-    pub past_end : e ≤ 100000 → Settles τ 1000001
+    pub past_end : e ≤ 100000 → Settles τ None
     past_end l = none (λ q a b. dite (dec_le q 100000) (λ m. p.near q a m) (λ m. p.far q (omega arith) b))
 
 pub ruleset past_laws = (past_found, past_start, past_at, past_low, past_next, past_end)
@@ -103,7 +98,7 @@ module _ (τ : TaskSet) (r m : ℕ) (high : r ≤ horizon) where
   pub part_high : r / m ≤ horizon
   part_high = omega (arith, div-le_self r m)
 
-  pub part_found : (x : ℕ) → 9 ≤ r → 1 < m → m ≤ 9 → Within 16000000000000 (request τ (r / m)) x → x ≤ r / m → Settles τ (r / m)
+  pub part_found : (x : ℕ) → 9 ≤ r → 1 < m → m ≤ 9 → Within 16000000000000 (request τ (r / m)) x → x ≤ r / m → Settles τ (Some (r / m))
   part_found x l o k w h =
       found
       ((le-div_iff_mul-le {k = m} {x = 1} {y = r} (omega arith)).1 (omega arith))
@@ -114,9 +109,8 @@ pub ruleset part_laws = (part_high, part_found)
 -- ---- what it decides
 
 module _ (τ : TaskSet) (fit : Fit τ) where
-  pub unsettled_by : Settles τ 1000001 → settled τ ≡ false
+  pub unsettled_by : Settles τ None → settled τ ≡ false
   unfolding settled busy_length
-  unsettled_by (found a b k) = absurd (omega arith)
   unsettled_by (none k) = both (settled τ) (λ s. absurd (no s)) (λ s. s)
     where
       no : settled τ ≡ true → ⊥

@@ -9,10 +9,10 @@ use super::request::requested;
 use super::rows::count;
 use super::sieve::lag_after;
 
-// The length, 1,000,001 where there is none up to 1,000,000, and how many times the request was summed up to find it.
+// The length, if there is one up to 1,000,000, and how many times the request was summed up to find it.
 #[derive(Clone, Copy)]
 pub struct Busy {
-    pub length: u64,
+    pub length: Option<u64>,
     pub sums: u64,
 }
 
@@ -28,14 +28,14 @@ pub fn busy_length(words: &[u32], inverses: &[u64; 16]) -> Busy
     let mut lag: u64 = 0;
     let length = loop {
         let next = requested(words, inverses, r);
-        sums = sums + 1;
+        sums += 1;
         if next == r {
-            break r;
+            break Some(r);
         }
         lag = lag_after(n, next - r, lag);
         let far = further(words, inverses, r, next, sums, lag);
         if 1000000 < far {
-            break 1000001;
+            break None;
         }
         r = far;
     };

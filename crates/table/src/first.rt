@@ -6,57 +6,60 @@ ghost use Rattle.table.specs.Inverse.{Inverses};
 ghost use Rattle.table.specs.Overload.{Exceeds};
 ghost use Rattle.table.specs.First.{First, narrow_by};
 
-use super::overload::{Found, search};
+use super::overload::{Found, Outcome, search};
 
-// No tick up to floor is exceeded, and at is one that is; with its demand, and the sums so far.
+// A tick that is exceeded, and how many times the demand was summed up to find it.
+#[derive(Clone, Copy)]
+pub struct Counted {
+    pub found: Found,
+    pub sums: u64,
+}
+
+// No tick up to floor is exceeded, and the one found is; with the sums so far.
 #[derive(Clone, Copy)]
 struct Range {
     floor: u64,
-    at: u64,
-    demand: u64,
+    found: Found,
     sums: u64,
 }
 
-// What is left of the range r where f is what the search up to its middle found.
-fn narrow(r: Range, middle: u64, f: Found) -> Range
-    requires { (r.sums ≤ 1000000) × (f.sums ≤ 1000000) }
-    ensures { result ≡ narrow_by r middle f }
+// What is left of the range r where s is the search up to its middle.
+fn narrow(r: Range, middle: u64, s: Outcome) -> Range
+    requires { (r.sums ≤ 1000000) × (s.sums ≤ 1000000) }
+    ensures { result ≡ narrow_by r middle s.found s.sums }
 {
-    if f.at == 0 {
-        return Range {
+    let sums = r.sums + s.sums;
+    match s.found {
+        Some(found) => Range {
+            floor: r.floor,
+            found,
+            sums,
+        },
+        None => Range {
             floor: middle,
-            at: r.at,
-            demand: r.demand,
-            sums: r.sums + f.sums,
-        };
-    }
-    Range {
-        floor: r.floor,
-        at: f.at,
-        demand: f.demand,
-        sums: r.sums + f.sums,
+            found: r.found,
+            sums,
+        },
     }
 }
 
 // The first tick that is exceeded, where `found` is one of them. Internal: `opinion` tests the rows first.
-pub fn first(words: &[u32], inverses: &[u64; 16], found: Found) -> Found
+pub fn first(words: &[u32], inverses: &[u64; 16], found: Counted) -> Counted
     requires { Fit (tasks_of words.now) × Inverses (tasks_of words.now) inverses.now × Exceeds (tasks_of words.now) 0 1000000 found }
     ensures { First (tasks_of words.now) found result }
 {
     let mut r = Range {
         floor: 0,
-        at: found.at,
-        demand: found.demand,
+        found: found.found,
         sums: found.sums,
     };
-    while r.floor + 1 < r.at {
-        let middle = r.floor + (r.at - r.floor) / 2;
-        let f = search(words, inverses, r.floor, middle);
-        r = narrow(r, middle, f);
+    while r.floor + 1 < r.found.at {
+        let middle = r.floor + (r.found.at - r.floor) / 2;
+        let s = search(words, inverses, r.floor, middle);
+        r = narrow(r, middle, s);
     }
-    Found {
-        at: r.at,
-        demand: r.demand,
+    Counted {
+        found: r.found,
         sums: r.sums,
     }
 }

@@ -29,12 +29,11 @@ fn fit_kind(words: &[u32]) -> Kind
     if b.loose {
         return Kind { number: 1, brittle };
     }
-    let end = settling(words, &inverses);
-    if 1000000 < end {
+    let Some(end) = settling(words, &inverses) else {
         return Kind { number: 0, brittle };
-    }
-    let found = search(words, &inverses, 0, end);
-    if found.at != 0 {
+    };
+    let s = search(words, &inverses, 0, end);
+    if s.found.is_some() {
         return Kind { number: 0, brittle };
     }
     if b.firm {

@@ -3,6 +3,7 @@
 
 ghost use Rattle.std.specs.Prelude.{◌≡◌, min};
 ghost use Rattle.table.specs.Rows.{tasks_of, Fit};
+ghost use Rattle.table.specs.Busy.{or_past};
 ghost use Rattle.table.specs.Verdict.{bad_length, judged_of, opinion_of};
 ghost use Rattle.table.specs.Opinion.{Shows, shown_of, refused_of};
 
@@ -19,6 +20,8 @@ mod request;
 pub mod rows;
 mod settle;
 mod sieve;
+
+use first::{Counted, first};
 
 // The three kinds of an admitted table, and the four refusals (docs/SPECIFICATION.md §3; `shown_of` gives their numbers).
 #[derive(Clone, Copy)]
@@ -109,11 +112,14 @@ fn ill_sized(n: usize) -> bool
     n == 0 || 48 < n || n % 3 != 0
 }
 
-// The end of the compared range: the busy length, or 1,000,000 if that is less.
-pub fn compared(busy: u64) -> u64
-    ensures { result ≡ min busy 1000000 }
+// The end of the compared range: the busy length, or 1,000,000 if that is less or there is none.
+pub fn compared(busy: Option<u64>) -> u64
+    ensures { result ≡ min (or_past busy) 1000000 }
 {
-    busy.min(1000000)
+    match busy {
+        Some(r) => r.min(1000000),
+        None => 1000000,
+    }
 }
 
 // The opinion on rows that keep their rule.
@@ -132,15 +138,19 @@ fn judge(words: &[u32]) -> Judgement
         };
     }
     let busy = busy::busy_length(words, &inverses);
-    let found = overload::search(words, &inverses, 0, compared(busy.length));
-    if found.at != 0 {
-        let first = first::first(words, &inverses, found);
+    let search = overload::search(words, &inverses, 0, compared(busy.length));
+    if let Some(found) = search.found {
+        let last = Counted {
+            found,
+            sums: search.sums,
+        };
+        let first = first(words, &inverses, last).found;
         return refused(Verdict::Overload {
             at: first.at,
             demand: first.demand,
         });
     }
-    if 1000000 < busy.length {
+    if busy.length.is_none() {
         return refused(Verdict::Unsettled);
     }
     if b.firm {

@@ -10,19 +10,24 @@ use super::drop::lower;
 use super::rows::count;
 use super::sieve::lag_after;
 
-// A tick and the demand there, which exceeds it; 0 and 0 where no tick of the range has one. And how many times the
-// demand was summed up to find it.
+// A tick and the demand there, which exceeds it.
 #[derive(Clone, Copy)]
 pub struct Found {
     pub at: u64,
     pub demand: u64,
+}
+
+// Such a tick of a range, if it has one, and how many times the demand was summed up to find it.
+#[derive(Clone, Copy)]
+pub struct Outcome {
+    pub found: Option<Found>,
     pub sums: u64,
 }
 
 // Looks at the ticks above floor, up to end, from the end down. Internal: `opinion` tests the rows first.
-pub fn search(words: &[u32], inverses: &[u64; 16], floor: u64, end: u64) -> Found
+pub fn search(words: &[u32], inverses: &[u64; 16], floor: u64, end: u64) -> Outcome
     requires { Fit (tasks_of words.now) × Inverses (tasks_of words.now) inverses.now × (end ≤ 1000000) }
-    ensures { Searched (tasks_of words.now) floor end result }
+    ensures { Searched (tasks_of words.now) floor end result.found result.sums }
 {
     let n = count(words);
     let mut t = end;
@@ -30,20 +35,16 @@ pub fn search(words: &[u32], inverses: &[u64; 16], floor: u64, end: u64) -> Foun
     let mut lag: u64 = 0;
     while floor < t {
         let h = demand_at(words, inverses, t);
-        sums = sums + 1;
+        sums += 1;
         if t < h {
-            return Found {
-                at: t,
-                demand: h,
+            let found = Found { at: t, demand: h };
+            return Outcome {
+                found: Some(found),
                 sums,
             };
         }
         lag = lag_after(n, t - h, lag);
         t = lower(words, inverses, t, h, sums, lag);
     }
-    Found {
-        at: 0,
-        demand: 0,
-        sums,
-    }
+    Outcome { found: None, sums }
 }

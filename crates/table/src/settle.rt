@@ -10,8 +10,8 @@ use super::request::requested;
 use super::rows::count;
 use super::sieve::lag_after;
 
-// The least such stretch from `from` to `end`; 1,000,001 where there is none.
-fn climb(words: &[u32], inverses: &[u64; 16], from: u64, end: u64) -> u64
+// The least such stretch from `from` to `end`, if there is one.
+fn climb(words: &[u32], inverses: &[u64; 16], from: u64, end: u64) -> Option<u64>
     requires { Fit (tasks_of words.now) × Inverses (tasks_of words.now) inverses.now × (1 ≤ from) × (end ≤ 1000000) }
     ensures { Climbed (tasks_of words.now) from end result }
 {
@@ -21,21 +21,21 @@ fn climb(words: &[u32], inverses: &[u64; 16], from: u64, end: u64) -> u64
     let mut lag: u64 = 0;
     while r <= end {
         let next = requested(words, inverses, r);
-        sums = sums + 1;
+        sums += 1;
         if next <= r {
-            return r;
+            return Some(r);
         }
         lag = lag_after(n, next - r, lag);
         r = further(words, inverses, r, next, sums, lag);
     }
-    1000001
+    None
 }
 
 // The least of r / 9, r / 8, .., r / 2 that is such a stretch; r if none is. Where the utilisation is near 1, r is often a
 // multiple of the busy length.
 fn part_of(words: &[u32], inverses: &[u64; 16], r: u64) -> u64
-    requires { Fit (tasks_of words.now) × Inverses (tasks_of words.now) inverses.now × (9 ≤ r) × (r ≤ 1000000) × Settles (tasks_of words.now) r }
-    ensures { Settles (tasks_of words.now) result }
+    requires { Fit (tasks_of words.now) × Inverses (tasks_of words.now) inverses.now × (9 ≤ r) × (r ≤ 1000000) × Settles (tasks_of words.now) (Some r) }
+    ensures { Settles (tasks_of words.now) (Some result) }
 {
     for m in (2..10).rev() {
         let q = r / m;
@@ -46,24 +46,22 @@ fn part_of(words: &[u32], inverses: &[u64; 16], r: u64) -> u64
     r
 }
 
-// Some such stretch up to 1,000,000; 1,000,001 where there is none. The least one is looked for up to 100,000, since the
-// search for an overload then has the less to do. Past that the last ones are found soonest: of each there are multiples.
+// Some such stretch up to 1,000,000, if there is one. The least one is looked for up to 100,000, since the search for an
+// overload then has the less to do. Past that the last ones are found soonest: of each there are multiples.
 // Internal: its callers have tested the rows.
-pub fn settling(words: &[u32], inverses: &[u64; 16]) -> u64
+pub fn settling(words: &[u32], inverses: &[u64; 16]) -> Option<u64>
     requires { Fit (tasks_of words.now) × Inverses (tasks_of words.now) inverses.now }
     ensures { Settles (tasks_of words.now) result }
 {
-    let near = climb(words, inverses, 1, 100000);
-    if near <= 100000 {
-        return near;
+    if let Some(r) = climb(words, inverses, 1, 100000) {
+        return Some(r);
     }
-    let mut end: u64 = 1000000;
+    let mut end = 1000000;
     while 100000 < end {
-        let r = climb(words, inverses, end - 49999, end);
-        if r <= end {
-            return part_of(words, inverses, r);
+        if let Some(r) = climb(words, inverses, end - 49999, end) {
+            return Some(part_of(words, inverses, r));
         }
-        end = end - 50000;
+        end -= 50000;
     }
-    1000001
+    None
 }

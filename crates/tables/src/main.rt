@@ -6,6 +6,7 @@
 ghost use Rattle.table.specs.Rows.{tasks_of, Fit};
 
 use std::io;
+use table::first::{Counted, first};
 
 fn put(rt: &impl Print, n: u64) -> io::Result<()> {
     print!(rt; "{n}\t")
@@ -36,14 +37,17 @@ fn put_sums(rt: &impl Print, words: &[u32]) -> io::Result<()>
     let inverses = table::inverse::inverses_of(words);
     let busy = table::busy::busy_length(words, &inverses);
     let end = table::compared(busy.length);
-    let found = table::overload::search(words, &inverses, 0, end);
+    let search = table::overload::search(words, &inverses, 0, end);
     print!(rt; "sums\t")?;
     put(rt, busy.sums)?;
-    if found.at == 0 {
-        put(rt, found.sums)?;
+    if let Some(found) = search.found {
+        let last = Counted {
+            found,
+            sums: search.sums,
+        };
+        put(rt, first(words, &inverses, last).sums)?;
     } else {
-        let first = table::first::first(words, &inverses, found);
-        put(rt, first.sums)?;
+        put(rt, search.sums)?;
     }
     put(rt, end)
 }

@@ -6,14 +6,14 @@ use Rattle.table.proofs.judge.Goals as goal
 pub returns-then-b : goal.returns-then-b
 returns-then-b c = search (rules, judge_cases)
 
-pub first-first-requires : goal.first-first-requires
-first-first-requires c = (search rules, search rules, search (rules, found_exceeds))
+pub first-requires : goal.first-requires
+first-requires c = (search rules, search rules, search (rules, found_exceeds))
 
-pub returns-then-found-ne0 : goal.returns-then-found-ne0
-returns-then-found-ne0 c = search (rules, judge_cases)
+pub returns-in-Some : goal.returns-in-Some
+returns-in-Some c = search (rules, judge_cases)
 
-pub returns-then-busy-gt1000000 : goal.returns-then-busy-gt1000000
-returns-then-busy-gt1000000 c = search (rules, judge_cases)
+pub returns-then-is_none : goal.returns-then-is_none
+returns-then-is_none c = search (rules, judge_cases)
 
 pub returns-then-b-2 : goal.returns-then-b-2
 returns-then-b-2 c = search (rules, judge_cases)

@@ -5,8 +5,8 @@ use Rattle.table.proofs.first.first.Goals as goal
 pub loop-r-init : goal.loop-r-init
 loop-r-init c = search (rules, narrow_laws)
 
-pub search-f-requires : goal.search-f-requires
-search-f-requires c = search (rules, narrow_laws)
+pub search-s-requires : goal.search-s-requires
+search-s-requires c = search (rules, narrow_laws)
 
 pub narrow-r-requires : goal.narrow-r-requires
 narrow-r-requires c = (search rules, search (rules, narrow_sums))
