@@ -56,6 +56,7 @@ pub fn settling(words: &[u32], inverses: &[u64; 16]) -> Option<u64>
     if let Some(r) = climb(words, inverses, 1, 100000) {
         return Some(r);
     }
+    // Counted by hand: `(150000..1000001).rev().step_by(50000)` is no plainer.
     let mut end = 1000000;
     while 100000 < end {
         if let Some(r) = climb(words, inverses, end - 49999, end) {
