@@ -76,7 +76,7 @@ fn arriving(k: Task, clock: u64, brittle: bool, asked: u64) -> Job
 }
 
 // How a row of a table is prepared: by the inverses of all periods, which the rows share, or by a division of its own.
-trait Prepares: Copy {
+pub trait Prepares: Copy {
     // Whether it serves for the table.
     ghost serves: { Self → TaskSet → Type 0 };
 
@@ -86,7 +86,7 @@ trait Prepares: Copy {
 }
 
 #[derive(Clone, Copy)]
-struct Divisions;
+pub struct Divisions;
 
 impl Prepares for Divisions {
     ghost serves = { λ d τ. ⊤ };
@@ -104,9 +104,11 @@ impl Prepares for &[u64; 16] {
     }
 }
 
-// `arrive` of a sound session, by its brittle rows, of which only this one's mark is looked at. One pass over the rows. Only q is
-// indexed, so that the record is not copied once more to read it.
-fn arrive_with<P: Prepares>(s: Session, by: P, brittle: [bool; 16], row: u64) -> Outcome
+// `arrive` of a sound session, by its brittle rows, of which only this one's mark is looked at. One pass over the rows, with the
+// inverses of its table's periods or with a division for each. The compiler makes a body for each way, and no function stands between
+// the body and its callers: that took a copy of the record more. Only q is indexed, so that the record is not copied once more to
+// read it.
+pub fn arrive_by<P: Prepares>(s: Session, by: P, brittle: [bool; 16], row: u64) -> Outcome
     requires { (sound s ≡ true) × P.serves by (tasks s) × MarkOf s brittle row }
     ensures { result ≡ arrive_in s row }
 {
@@ -142,23 +144,6 @@ fn arrive_with<P: Prepares>(s: Session, by: P, brittle: [bool; 16], row: u64) ->
         used: 0,
         session: q,
     }
-}
-
-// With a division for each row.
-fn arrive_marked(s: Session, brittle: [bool; 16], row: u64) -> Outcome
-    requires { (sound s ≡ true) × MarkOf s brittle row }
-    ensures { result ≡ arrive_in s row }
-{
-    arrive_with(s, Divisions, brittle, row)
-}
-
-// With the inverses of the table's periods and no division, for callers who can prove that the session is sound and that these are
-// its table's.
-pub fn arrive_by(s: Session, inverses: &[u64; 16], brittle: [bool; 16], row: u64) -> Outcome
-    requires { (sound s ≡ true) × Inverses (tasks s) inverses.now × MarkOf s brittle row }
-    ensures { result ≡ arrive_in s row }
-{
-    arrive_with(s, inverses, brittle, row)
 }
 
 // The inverses of the periods of a session's table, which all its arrivals can share: a division for each row. For callers who
@@ -208,7 +193,7 @@ pub fn arrive_sound(s: Session, row: u64) -> Outcome
         return arrive_mixed(s, row);
     }
     let tight = kind == 2;
-    arrive_marked(s, [tight; 16], row)
+    arrive_by(s, Divisions, [tight; 16], row)
 }
 
 pub fn arrive(s: Session, row: u64) -> Outcome
@@ -217,5 +202,5 @@ pub fn arrive(s: Session, row: u64) -> Outcome
     let Some(brittle) = check_of(s) else {
         return refuse(s, Answer::Unsound);
     };
-    arrive_marked(s, brittle, row)
+    arrive_by(s, Divisions, brittle, row)
 }

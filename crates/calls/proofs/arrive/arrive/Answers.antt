@@ -4,8 +4,8 @@ use Rattle.session.specs.Guard.{checked_laws}
 use Rattle.calls.specs.Code.{mark_of}
 use Rattle.calls.proofs.arrive.arrive.Goals as goal
 
-pub arrive_marked-requires : goal.arrive_marked-requires
-arrive_marked-requires c = search (rules, mark_of)
+pub arrive_by-requires : goal.arrive_by-requires
+arrive_by-requires c = search (rules, mark_of)
 
 pub returns-in_default : goal.returns-in_default
 unfolding arrive_of

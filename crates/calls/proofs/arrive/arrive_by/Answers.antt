@@ -8,7 +8,7 @@ use Rattle.session.specs.Facts.{facts_of}
 use Rattle.calls.specs.Code.{places, place_fits, facts_rows, arrive_cases}
 use Rattle.calls.specs.Code.{asked_laws, asked_done, asked_fit, asked_row, asked_left, asked_clock, asked_run, asked_deadline, asked_period, asked_small, asked_most, asked_few}
 use Rattle.calls.proofs.CodeLaws.{asked_next}
-use Rattle.calls.proofs.arrive.arrive_with.Goals as goal
+use Rattle.calls.proofs.arrive.arrive_by.Goals as goal
 
 pub returns-then-count-row : goal.returns-then-count-row
 returns-then-count-row g c = search (rules, arrive_cases)

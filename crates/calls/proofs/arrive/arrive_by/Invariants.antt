@@ -2,7 +2,7 @@ use Rattle.std.proofs.Common.{◌*◌, ◌-◌, ◌≡◌, ◌≤◌}
 use Rattle.bounded.specs.Sum.{sum_to}
 use Rattle.table.specs.Rows.{tasks_of}
 use Rattle.calls.specs.Code.{asked_of, Asking}
-use Rattle.calls.proofs.arrive.arrive_with.Given as goal
+use Rattle.calls.proofs.arrive.arrive_by.Given as goal
 
 abbrev pub invariant-loop-j : goal.invariant-loop-j
 invariant-loop-j g l =
