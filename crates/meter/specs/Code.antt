@@ -1,8 +1,8 @@
 -- What the code of the meter needs. Assumes nothing.
-use Rattle.std.specs.Prelude.{ℕ, suc, ◌+◌, ◌-◌, ◌*◌, ◌%◌, ◌≤◌, ◌<◌, ◌≡◌, refl, Bool, true, false, not, List, leb, eqb, length, get_or, set, replicate}
-use Rattle.std.proofs.Common.{sym, ◌∙◌, mul-le-mul_right, mod-lt, Fits}
+use Rattle.std.specs.Prelude.{ℕ, ◌+◌, ◌-◌, ◌*◌, ◌%◌, ◌≤◌, ◌<◌, ◌≡◌, refl, Bool, true, false, not, List, leb, eqb, length, get_or, set, replicate}
+use Rattle.std.proofs.Common.{◌∙◌, Fits}
 use Rattle.std.proofs.Math.Path.{ap}
-use Rattle.std.proofs.Math.Nat.{mod-eq_of_lt, mod-eq-sub-mod}
+use Rattle.std.proofs.Math.Nat.{mod-eq_of_lt}
 use native.Mathlib.Omega.{arith}
 use Rattle.std.proofs.Math.ListN.{length-replicate}
 use Rattle.std.specs.Int.{w64, from_bool}
@@ -22,16 +22,6 @@ pub record Place (a : List ℕ) (h : Shape) (k p : ℕ) : Type 0 where
   pub room : p + h.ticks ≤ length a
   pub small : length a ≤ 16384
   pub window : h.window ≤ h.ticks
-
-stretch_room : (k n l : ℕ) → k < n → k * l + l ≤ n * l
-stretch_room k n l h = omega (arith, mul-le-mul_right {m = suc k} {n = n} l h)
-
-pub place_fits : (a : List ℕ) (h : Shape) (k : ℕ) → Shaped a h → k < h.stretches → Fits w64 (k * h.ticks)
-place_fits a h k f l = record { fits = omega (arith, stretch_room k h.stretches h.ticks l, f.most, f.long) }
-
-pub place_is : (a : List ℕ) (h : Shape) (k : ℕ) → Shaped a h → k < h.stretches → Place a h k (k * h.ticks)
-place_is a h k f l =
-    record { is = refl; room = omega (arith, stretch_room k h.stretches h.ticks l, f.long); small = f.most; window = f.within }
 
 -- ---- `differ` and `near`
 
@@ -123,29 +113,6 @@ pub record Joins (h : Shape) (t r : ℕ) : Type 0 where
   pub is : r ≡ (t + h.window) % h.ticks
   pub below : r < h.ticks
 
-pub joins_fits : (a : List ℕ) (h : Shape) (t m : ℕ) → Shaped a h → t < h.ticks → m ≡ h.window → Fits w64 (t + m)
-joins_fits a h t m f l e = record { fits = omega (arith, ticks_few a h f, f.within) }
-
-pub joins_may : (a : List ℕ) (h : Shape) (t m z : ℕ) → Shaped a h → t < h.ticks → m ≡ h.window → z ≡ h.ticks → t + m < z + z
-joins_may a h t m z f l e g = omega (arith, f.within)
-
-pub joins_is : (h : Shape) (t m z r : ℕ) → t < h.ticks → m ≡ h.window → z ≡ h.ticks → r ≡ (t + m) % z → Joins h t r
-joins_is h t m z r l e g w =
-    let is : r ≡ (t + h.window) % h.ticks = w ∙ rw (e, g) in
-    record { is = is; below = rw is (mod-lt (t + h.window) {m = h.ticks} (omega arith)) }
-
-pub ruleset joins_laws = (joins_fits, joins_may, joins_is)
-
--- ---- `around`
-
-pub around_not : (x l : ℕ) → x < l → x ≡ x % l
-around_not x l h = sym (mod-eq_of_lt h)
-
-pub around_once : (x l : ℕ) → l ≤ x → x < l + l → x - l ≡ x % l
-around_once x l h u = sym (mod-eq-sub-mod h ∙ mod-eq_of_lt (omega arith))
-
-pub ruleset around_laws = (around_not, around_once)
-
 -- ---- `moved`
 
 pub record Moving (a : List ℕ) (p q t e d : ℕ) : Type 0 where
@@ -159,14 +126,6 @@ pub record Moving (a : List ℕ) (p q t e d : ℕ) : Type 0 where
 
 pub record Moved (a : List ℕ) (p q t e d r : ℕ) : Type 0 where
   pub is : r + apart_at a p q t ≡ d + apart_at a p q e
-
-pub moved_is : (a : List ℕ) (p q t e d x y : ℕ) → Moving a p q t e d → Within 1 (apart_at a p q t) x → Within 1 (apart_at a p q e) y → Moved a p q t e d (d + y - x)
-moved_is a p q t e d x y m v w = record { is = omega (arith, m.may, v.is, w.is) }
-
-pub moved_may : (a : List ℕ) (p q t e d x y : ℕ) → Moving a p q t e d → Within 1 (apart_at a p q t) x → Within 1 (apart_at a p q e) y → x ≤ d + y
-moved_may a p q t e d x y m v w = omega (arith, m.may, v.is, w.is)
-
-pub ruleset moved_laws = (moved_is, moved_may)
 
 -- ---- `like`
 

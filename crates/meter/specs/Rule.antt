@@ -1,8 +1,7 @@
 -- The rule of the meter's input, as facts. Assumes nothing.
 use Rattle.std.specs.Prelude.{ℕ, ◌*◌, ◌≤◌, ◌<◌, ◌≡◌, Bool, true, false, List, leb, eqb, length, Ok, Err}
 use Rattle.std.proofs.Math.Path.{sym}
-use Rattle.std.proofs.Common.{◌∙◌, mul-le-mul, mul-le-mul_right, arith, Fits}
-use Rattle.std.specs.Int.{w64}
+use Rattle.std.proofs.Common.{◌∙◌, mul-le-mul_right, arith}
 use borrow.Author.Tests.{le-leb, leb-true, eqb-true}
 use Rattle.bounded.specs.Tests.{both, and-true}
 use Rattle.meter.specs.declared.Shape.{Shape}
@@ -81,9 +80,6 @@ module _ (a : List ℕ) (h : Shape) where
     pub measure_not : b ≡ false → Err bad_shape ≡ measure_of a h
     unfolding measure_of
     measure_not n = simp (sym is ∙ n)
-
-pub size_fits : (n l : ℕ) → n ≤ 255 → l ≤ 16384 → Fits w64 (n * l)
-size_fits n l a b = record { fits = omega (arith, mul-le-mul {n₁ = n} {m₁ = l} {n₂ = 255} {m₂ = 16384} a b) }
 
 pub ruleset fit_laws = (fit_large, fit_length)
 
