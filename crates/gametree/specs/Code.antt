@@ -27,14 +27,6 @@ forced_round τ (suc t) p = refl
 
 -- ---- small steps
 
-pub late_none : (j : Slot) (clock : ℕ) → j.left ≡ 0 → false ≡ late_by j clock
-late_none j clock e = simp (le-ltb 0 j.left (omega arith))
-
-pub late_some : (j : Slot) (clock : ℕ) → (j.left ≡ 0 → ⊥) → leb j.due clock ≡ late_by j clock
-late_some j clock ne = simp (lt-ltb 0 j.left (omega arith))
-
-pub ruleset late_cases = (late_none, late_some)
-
 -- a release
 pub released_is : (τ : TaskSet) (p : Board) (i : ℕ) (k : Task) → FitRow τ i k
     → record { clock = p.clock; slots = set p.slots i (record { next = p.clock + k.period; due = p.clock + k.deadline; left = k.run }) } ≡ released_of τ p i
@@ -68,22 +60,32 @@ pub ruleset may_cases = (may_row, may_none)
 abbrev lates : Board → ℕ → Bool
 lates p i = late_by (slot_at p i) p.clock
 
-missed_three : (p : Board) → missed_of p ≡ not (not (lates p 0) && not (lates p 1) && not (lates p 2))
-unfolding missed_of all_to
-missed_three p = refl
+-- none of the first i slots has one
+pub record InTime (p : Board) (i : ℕ) : Type 0 where
+  pub none : all_to (λ i. not (lates p i)) i ≡ true
 
-module _ (p : Board) (a : Bool) (ea : a ≡ lates p 0) where
-  pub missed_first : a ≡ true → true ≡ missed_of p
-  missed_first t = sym (missed_three p ∙ simp (sym ea ∙ t))
+module _ (p : Board) where
+  missed_is : missed_of p ≡ not (all_to (λ i. not (lates p i)) 3)
+  unfolding missed_of
+  missed_is = refl
 
-  module _ (na : a ≡ false) (b : Bool) (eb : b ≡ lates p 1) where
-    pub missed_second : b ≡ true → true ≡ missed_of p
-    missed_second t = sym (missed_three p ∙ simp (sym ea ∙ na, sym eb ∙ t))
+  pub in_time_start : InTime p 0
+  unfolding all_to
+  in_time_start = record { none = refl }
 
-    pub missed_third : (c : Bool) → b ≡ false → c ≡ lates p 2 → c ≡ missed_of p
-    missed_third c nb ec = ec ∙ sym (missed_three p ∙ simp (sym ea ∙ na, sym eb ∙ nb) (not-not (lates p 2)))
+  module _ (i : ℕ) (a : Bool) (e : a ≡ lates p i) where
+    pub in_time_next : InTime p i → a ≡ false → InTime p (i + 1)
+    unfolding all_to
+    in_time_next h f = let k : i + 1 ≡ suc i = omega arith in record { none = rw k (simp (h.none, sym e ∙ f)) }
 
-pub ruleset missed_cases = (missed_first, missed_second, missed_third)
+    pub missed_some : i < 3 → a ≡ true → true ≡ missed_of p
+    missed_some l t =
+        sym (missed_is ∙ ap not (sym (all_fails (λ i. not (lates p i)) i 3 3 _ l refl refl (simp (sym e ∙ t)))))
+
+  pub missed_none : (i : ℕ) → InTime p i → i ≡ 3 → false ≡ missed_of p
+  missed_none i h k = let t : all_to (λ i. not (lates p i)) 3 ≡ true = rw k at h.none in sym (missed_is ∙ ap not t)
+
+pub ruleset missed_cases = (in_time_start, in_time_next, missed_some, missed_none)
 
 -- ---- each move
 

@@ -1,5 +1,5 @@
 -- The proof of Statement.antt. Assumes nothing.
-use Rattle.std.specs.Prelude.{ℕ, zero, suc, ◌≡◌, refl, true, false, List, get_or, replicate}
+use Rattle.std.specs.Prelude.{ℕ, zero, suc, ◌≡◌, refl, true, false, List, get_or, replicate, Result, Ok, Err}
 use Rattle.std.proofs.Common.{sym, ap, subst, ◌∙◌, true≢false, arith}
 use Rattle.std.proofs.lemmas.List.{length-replicate}
 use Rattle.bounded.specs.Tests.{both}
@@ -12,7 +12,9 @@ use Rattle.table.specs.Verdict.{opinion_of}
 use Rattle.table.proofs.TheoremsLaws.{admitted_fits, first_overload_lem}
 use Rattle.gametree.specs.declared.board.Slot.{Slot}
 use Rattle.gametree.specs.declared.Finding.{Finding}
-use Rattle.gametree.specs.declared.Finding.TheVariants.{Forced, Held, Refused}
+use Rattle.gametree.specs.declared.Finding.TheVariants.{Forced, Held}
+use Rattle.gametree.specs.declared.Refusal.{Refusal}
+use Rattle.gametree.specs.declared.Refusal.TheVariants.{BrokenRules}
 use Rattle.gametree.specs.Bounds.{Playing}
 use Rattle.gametree.specs.Search.{forced_of}
 use Rattle.gametree.specs.Entry.{playable_of, opening_of, search_of, playable_playing}
@@ -39,21 +41,21 @@ opening_framed τ = record { size = length-replicate {A = Slot} 3 no_slot; blank
 
 -- ---- the three answers differ
 
-abbrev tag : Finding → ℕ
-tag Forced = 0
-tag Held = 1
-tag Refused = 2
+abbrev tag : Result Finding Refusal → ℕ
+tag (Ok Forced) = 0
+tag (Ok Held) = 1
+tag (Err x) = 2
 
-unlike : {P : Type 0} (r f g : Finding) → r ≡ f → r ≡ g → (tag f ≡ tag g → ⊥) → P
+unlike : {P : Type 0} (r f g : Result Finding Refusal) → r ≡ f → r ≡ g → (tag f ≡ tag g → ⊥) → P
 unlike r f g e q n = absurd (n (ap tag (sym e ∙ q)))
 
 -- ---- what each says and means
 
-module _ (l : List ℕ) (n : ℕ) (r : Finding) where
+module _ (l : List ℕ) (n : ℕ) (r : Result Finding Refusal) where
   abbrev Exact : Type 0
   Exact = Says l n r × Means l n r
 
-  exact_refused : playable_of l n ≡ false → r ≡ Refused → Exact
+  exact_refused : playable_of l n ≡ false → r ≡ Err BrokenRules → Exact
   exact_refused e is = (
     record {
       refused = λ f. is;
@@ -61,39 +63,39 @@ module _ (l : List ℕ) (n : ℕ) (r : Finding) where
       held = λ t. absurd (true≢false (sym t ∙ e));
     },
     record {
-      forces = λ z. unlike r Refused Forced is z (λ q. omega (arith, q));
-      exceeds = λ z. unlike r Refused Forced is z (λ q. omega (arith, q));
-      holds = λ z. unlike r Refused Held is z (λ q. omega (arith, q));
-      within = λ z. unlike r Refused Held is z (λ q. omega (arith, q));
+      forces = λ z. unlike r (Err BrokenRules) (Ok Forced) is z (λ q. omega (arith, q));
+      exceeds = λ z. unlike r (Err BrokenRules) (Ok Forced) is z (λ q. omega (arith, q));
+      holds = λ z. unlike r (Err BrokenRules) (Ok Held) is z (λ q. omega (arith, q));
+      within = λ z. unlike r (Err BrokenRules) (Ok Held) is z (λ q. omega (arith, q));
       exceeded = λ t. absurd (true≢false (sym t ∙ e));
       refuses = λ z. e;
     },
   )
 
   module _ (e : playable_of l n ≡ true) (game : ExactlyWhen (tasks_of l) n) where
-    exact_forced : Forces (tasks_of l) n opening → r ≡ Forced → Exact
+    exact_forced : Forces (tasks_of l) n opening → r ≡ Ok Forced → Exact
     exact_forced won is = (
       record { refused = λ f. absurd (true≢false (sym e ∙ f)); forced = λ t w. is; held = λ t not-won. absurd (not-won won) },
       record {
         forces = λ z. won;
         exceeds = λ z. game.exceeds won;
-        holds = λ z. unlike r Forced Held is z (λ q. omega (arith, q));
-        within = λ z. unlike r Forced Held is z (λ q. omega (arith, q));
+        holds = λ z. unlike r (Ok Forced) (Ok Held) is z (λ q. omega (arith, q));
+        within = λ z. unlike r (Ok Forced) (Ok Held) is z (λ q. omega (arith, q));
         exceeded = λ t x. is;
-        refuses = λ z. unlike r Forced Refused is z (λ q. omega (arith, q));
+        refuses = λ z. unlike r (Ok Forced) (Err BrokenRules) is z (λ q. omega (arith, q));
       },
     )
 
-    exact_held : (Forces (tasks_of l) n opening → ⊥) → r ≡ Held → Exact
+    exact_held : (Forces (tasks_of l) n opening → ⊥) → r ≡ Ok Held → Exact
     exact_held not-won is = (
       record { refused = λ f. absurd (true≢false (sym e ∙ f)); forced = λ t won. absurd (not-won won); held = λ t w. is },
       record {
-        forces = λ z. unlike r Held Forced is z (λ q. omega (arith, q));
-        exceeds = λ z. unlike r Held Forced is z (λ q. omega (arith, q));
+        forces = λ z. unlike r (Ok Held) (Ok Forced) is z (λ q. omega (arith, q));
+        exceeds = λ z. unlike r (Ok Held) (Ok Forced) is z (λ q. omega (arith, q));
         holds = λ z. not-won;
         within = λ z x. not-won (game.forces x);
         exceeded = λ t x. absurd (not-won (game.forces x));
-        refuses = λ z. unlike r Held Refused is z (λ q. omega (arith, q));
+        refuses = λ z. unlike r (Ok Held) (Err BrokenRules) is z (λ q. omega (arith, q));
       },
     )
 
@@ -122,12 +124,12 @@ pub refused_forced : RefusedForced
 refused_forced l n e z h = (search_exact l n).1.exceeded e ((opinion_of l).first, h, (first_overload_lem l z).0)
 
 -- for the code
-pub answer_is : (l : List ℕ) (n : ℕ) (r : Finding) → r ≡ search_of l n → (r ≡ search_of l n) × Says l n r
+pub answer_is : (l : List ℕ) (n : ℕ) (r : Result Finding Refusal) → r ≡ search_of l n → (r ≡ search_of l n) × Says l n r
 answer_is l n r e = (e, subst (Says l n) (sym e) (search_exact l n).0)
 
 -- for callers that have an answer: the table and n keep their rules
-pub forced_playing : (l : List ℕ) (n : ℕ) → search_of l n ≡ Forced → Playing (tasks_of l) 0 n
+pub forced_playing : (l : List ℕ) (n : ℕ) → search_of l n ≡ Ok Forced → Playing (tasks_of l) 0 n
 unfolding search_of
 forced_playing l n w =
     both (playable_of l n) (λ e. playable_playing l n (playable_of l n) refl e)
-    (λ e. unlike (search_of l n) Refused Forced (simp e) w (λ q. omega (arith, q)))
+    (λ e. unlike (search_of l n) (Err BrokenRules) (Ok Forced) (simp e) w (λ q. omega (arith, q)))

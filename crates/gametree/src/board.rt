@@ -4,7 +4,6 @@ ghost use Rattle.table.specs.Rows.{tasks_of};
 ghost use Rattle.gametree.specs.Search.{released_of, played_of, may_of, late_by, missed_of};
 ghost use Rattle.gametree.specs.Bounds.{Playing};
 
-use bounded::less;
 use table::rows::fit_row;
 
 // Of a row: its earliest next release; and its last job's deadline and the ticks that this still has to run. No job of the row
@@ -45,15 +44,14 @@ pub fn played(b: Board, m: usize) -> Board
     ensures { (result ≡ played_of b m) × (result.clock ≡ b.clock + 1) }
 {
     let mut after = b;
-    after.clock = b.clock + 1;
+    after.clock += 1;
     if 3 <= m {
         return after;
     }
     let j = b.slots[m];
     after.slots[m] = Slot {
-        next: j.next,
-        due: j.due,
-        left: less(j.left, 1),
+        left: j.left.saturating_sub(1),
+        ..j
     };
     after
 }
@@ -62,26 +60,19 @@ pub fn played(b: Board, m: usize) -> Board
 fn late(j: Slot, clock: u64) -> bool
     ensures { result ≡ late_by j clock }
 {
-    if j.left == 0 {
-        return false;
-    }
-    j.due <= clock
+    0 < j.left && j.due <= clock
 }
 
 // Whether some job is.
 pub fn missed(b: Board) -> bool
     ensures { result ≡ missed_of b }
 {
-    let first = b.slots[0];
-    let second = b.slots[1];
-    let third = b.slots[2];
-    if late(first, b.clock) {
-        return true;
+    for &j in &b.slots {
+        if late(j, b.clock) {
+            return true;
+        }
     }
-    if late(second, b.clock) {
-        return true;
-    }
-    late(third, b.clock)
+    false
 }
 
 // Whether the scheduler may give the tick to m: a job that waits, or none. Internal: there are four moves.

@@ -19,8 +19,13 @@ pub enum Finding {
     Forced,
     // They can't.
     Held,
+}
+
+// Why no search is made.
+#[derive(Clone, Copy)]
+pub enum Refusal {
     // 16: the slice, its rows or N break their rules.
-    Refused,
+    BrokenRules,
 }
 
 // Whether a search is made: 1 to 3 rows that keep their rule, and 1 to 12 ticks.
@@ -28,26 +33,11 @@ fn playable(words: &[u32], n: u64) -> bool
     ensures { result ≡ playable_of words.now n }
 {
     let len = words.len();
-    if len == 0 {
-        return false;
-    }
-    if 9 < len {
-        return false;
-    }
-    if len % 3 != 0 {
-        return false;
-    }
-    if n == 0 {
-        return false;
-    }
-    if 12 < n {
-        return false;
-    }
-    count(words) <= first_broken(words)
+    len != 0 && len <= 9 && len % 3 == 0 && n != 0 && n <= 12 && count(words) <= first_broken(words)
 }
 
 // Whether arrivals can force a job unfinished at its deadline within n ticks.
-pub fn search(words: &[u32], n: u64) -> Finding
+pub fn search(words: &[u32], n: u64) -> Result<Finding, Refusal>
     ensures { (result ≡ search_of words.now n) × Says words.now n result }
 {
     if playable(words, n) {
@@ -60,29 +50,29 @@ pub fn search(words: &[u32], n: u64) -> Finding
             }; 3],
         };
         if tree::forced(words, b, n, count(words)) {
-            return Finding::Forced;
+            return Ok(Finding::Forced);
         }
-        return Finding::Held;
+        return Ok(Finding::Held);
     }
-    Finding::Refused
+    Err(Refusal::BrokenRules)
 }
 
-// A finding in numbers.
-pub fn shown(f: Finding) -> Numbers
+// An answer in numbers.
+pub fn shown(f: Result<Finding, Refusal>) -> Numbers
     ensures { result ≡ numbers_of f }
 {
     match f {
-        Finding::Forced => Numbers {
+        Ok(Finding::Forced) => Numbers {
             number: 0,
             first: 1,
             second: 0,
         },
-        Finding::Held => Numbers {
+        Ok(Finding::Held) => Numbers {
             number: 0,
             first: 0,
             second: 0,
         },
-        Finding::Refused => Numbers {
+        Err(Refusal::BrokenRules) => Numbers {
             number: 16,
             first: 0,
             second: 0,

@@ -1,5 +1,5 @@
 -- The whole of what `contest` writes (docs/SPECIFICATION.md §13.4). Definitions only. Assumes nothing.
-use Rattle.std.specs.Prelude.{ℕ, suc, ◌+◌, Bool, true, false, cond, List, [], ◌∷◌, ◌++◌, ltb, eqb, length, take}
+use Rattle.std.specs.Prelude.{ℕ, suc, ◌+◌, Bool, true, false, cond, List, [], ◌∷◌, ◌++◌, ltb, eqb, length, take, Result, Ok, Err}
 use Rattle.bounded.specs.Least.{least_from}
 use Rattle.decimal.specs.Joined.{join_to}
 use Rattle.edf.specs.Demand.{TaskSet, demand}
@@ -8,7 +8,8 @@ use Rattle.lines.specs.Text.{line_text}
 use Rattle.table.specs.declared.Numbers.{Numbers}
 use Rattle.table.specs.Rows.{tasks_of}
 use Rattle.gametree.specs.declared.Finding.{Finding}
-use Rattle.gametree.specs.declared.Finding.TheVariants.{Forced, Held, Refused}
+use Rattle.gametree.specs.declared.Finding.TheVariants.{Forced, Held}
+use Rattle.gametree.specs.declared.Refusal.{Refusal}
 use Rattle.gametree.specs.Entry.{search_of, numbers_of}
 use Rattle.report.specs.Whole.{Filled}
 use Rattle.lesson.specs.declared.item.Item.{Item}
@@ -42,12 +43,12 @@ abbrev pub shown_text : Numbers → List ℕ
 shown_text v = line_text 0 78 v.number v.first v.second
 
 -- what follows it: where arrivals win, a line of releases that wins whatever is played
-abbrev pub line_of_releases : List ℕ → ℕ → Finding → List ℕ
-line_of_releases l n Forced = releases_text (tasks_of l) (overload_by (tasks_of l) n)
-line_of_releases l n Held = []
-line_of_releases l n Refused = []
+abbrev pub line_of_releases : List ℕ → ℕ → Result Finding Refusal → List ℕ
+line_of_releases l n (Ok Forced) = releases_text (tasks_of l) (overload_by (tasks_of l) n)
+line_of_releases l n (Ok Held) = []
+line_of_releases l n (Err x) = []
 
-abbrev pub finding_text : List ℕ → ℕ → Finding → List ℕ
+abbrev pub finding_text : List ℕ → ℕ → Result Finding Refusal → List ℕ
 finding_text l n f = shown_text (numbers_of f) ++ line_of_releases l n f
 
 -- what the search says of a table and n

@@ -1,5 +1,5 @@
 -- The code that writes an answer. Assumes nothing.
-use Rattle.std.specs.Prelude.{ℕ, ◌+◌, ◌*◌, ◌%◌, ◌≤◌, ◌<◌, ◌≡◌, Bool, false, List, ltb, length}
+use Rattle.std.specs.Prelude.{ℕ, ◌+◌, ◌*◌, ◌%◌, ◌≤◌, ◌<◌, ◌≡◌, Bool, false, List, ltb, length, Result, Ok, Err}
 use Rattle.std.proofs.Math.Path.{refl, subst}
 use Rattle.std.proofs.Common.{sym, ap, ◌∙◌, append-nil}
 use Rattle.std.proofs.Math.Bool.{and-false}
@@ -17,7 +17,8 @@ use Rattle.table.specs.declared.Numbers.{Numbers}
 use Rattle.table.specs.declared.rows.Task.{Task}
 use Rattle.table.specs.Rows.{tasks_of, Fit, FitRow}
 use Rattle.gametree.specs.declared.Finding.{Finding}
-use Rattle.gametree.specs.declared.Finding.TheVariants.{Forced, Held, Refused}
+use Rattle.gametree.specs.declared.Finding.TheVariants.{Forced, Held}
+use Rattle.gametree.specs.declared.Refusal.{Refusal}
 use Rattle.gametree.specs.Entry.{search_of, numbers_of}
 use Rattle.gametree.specs.Theorems.{search_exact, forced_playing}
 use Rattle.lesson.specs.Lesson.{overload_by, release_text, tick_text, releases_text, shown_text, finding_text, answer_text}
@@ -94,7 +95,7 @@ pub ruleset releases_laws = (releases_start, releases_end, joined_laws)
 -- ---- `put_answer`
 
 -- where the search says that arrivals win, there is such a t
-module _ (l : List ℕ) (n : ℕ) (f : Finding) (e : f ≡ search_of l n) (w : f ≡ Forced) where
+module _ (l : List ℕ) (n : ℕ) (f : Result Finding Refusal) (e : f ≡ search_of l n) (w : f ≡ Ok Forced) where
   pub forced_fit : Fit (tasks_of l)
   forced_fit = (forced_playing l n (sym e ∙ w)).fit
 
@@ -123,32 +124,35 @@ module _ (l : List ℕ) (n : ℕ) (f : Finding) (e : f ≡ search_of l n) (w : f
   forced_twelve t q = omega (arith, forced_within t q, forced_short)
 
 -- its demand exceeds it
-pub forced_over : (l : List ℕ) (n : ℕ) → search_of l n ≡ Forced → overload_by (tasks_of l) n < demand (tasks_of l) (overload_by (tasks_of l) n)
+pub forced_over : (l : List ℕ) (n : ℕ) → search_of l n ≡ Ok Forced → overload_by (tasks_of l) n < demand (tasks_of l) (overload_by (tasks_of l) n)
 unfolding overload_by
 forced_over l n w =
     let h = forced_within l n (search_of l n) refl w (overload_by (tasks_of l) n) refl in
     ltb-true _ _ (least_at (over (tasks_of l)) 0 (n + 1) (omega arith))
 
-module _ (l : List ℕ) (n : ℕ) (f : Finding) (e : f ≡ search_of l n) (v : Numbers) (s : v ≡ numbers_of f) (b d : List ℕ) (at p : ℕ) (room : at + 3182 ≤ length b)
+module _ (l : List ℕ) (n : ℕ) (f : Result Finding Refusal) (e : f ≡ search_of l n) (v : Numbers) (s : v ≡ numbers_of f) (b d : List ℕ) (at p : ℕ) (room : at + 3182 ≤ length b)
     (w : Wrote 86 (line_text 0 78 v.number v.first v.second) b d at p) where
   -- the first line, and what was written of the finding x
-  head : (x : Finding) → f ≡ x → Wrote 86 (shown_text (numbers_of x)) b d at p
+  head : (x : Result Finding Refusal) → f ≡ x → Wrote 86 (shown_text (numbers_of x)) b d at p
   head x k = subst (λ (y : Numbers). Wrote 86 (shown_text y) b d at p) (s ∙ ap numbers_of k) w
 
-  whole : (x : Finding) → f ≡ x → (g : List ℕ) (q : ℕ) → Wrote 3182 (finding_text l n x) b g at q → Wrote 3182 (answer_text l n) b g at q
+  whole : (x : Result Finding Refusal) → f ≡ x → (g : List ℕ) (q : ℕ) → Wrote 3182 (finding_text l n x) b g at q → Wrote 3182 (answer_text l n) b g at q
   unfolding answer_text
-  whole x k g q y = subst (λ (z : Finding). Wrote 3182 (finding_text l n z) b g at q) (sym k ∙ e) y
+  whole x k g q y = subst (λ (z : Result Finding Refusal). Wrote 3182 (finding_text l n z) b g at q) (sym k ∙ e) y
 
-  pub answer_forced : (t : ℕ) (g : List ℕ) (q : ℕ) → f ≡ Forced → t ≡ overload_by (tasks_of l) n → Wrote 3096 (releases_text (tasks_of l) t) d g p q
+  pub answer_forced : (x : Finding) (t : ℕ) (g : List ℕ) (q : ℕ) → f ≡ Ok x → x ≡ Forced → t ≡ overload_by (tasks_of l) n → Wrote 3096 (releases_text (tasks_of l) t) d g p q
       → Wrote 3182 (answer_text l n) b g at q
-  answer_forced t g q k o x =
-      let y = head Forced k in
-      whole Forced k g q (wrote_more 86 3096 _ _ b d g at p q (omega (arith, y.short)) y (rw o at x))
+  answer_forced u t g q i j o x =
+      let k : f ≡ Ok Forced = i ∙ ap Ok j in
+      let y = head (Ok Forced) k in
+      whole (Ok Forced) k g q (wrote_more 86 3096 _ _ b d g at p q (omega (arith, y.short)) y (rw o at x))
 
-  pub answer_held : f ≡ Held → Wrote 3182 (answer_text l n) b d at p
-  answer_held k = whole Held k d p (simp append-nil (wrote_within 86 3182 _ b d at p (omega arith) (head Held k)))
+  pub answer_held : (x : Finding) → f ≡ Ok x → x ≡ Held → Wrote 3182 (answer_text l n) b d at p
+  answer_held x i j =
+      let k : f ≡ Ok Held = i ∙ ap Ok j in
+      whole (Ok Held) k d p (simp append-nil (wrote_within 86 3182 _ b d at p (omega arith) (head (Ok Held) k)))
 
-  pub answer_refused : f ≡ Refused → Wrote 3182 (answer_text l n) b d at p
-  answer_refused k = whole Refused k d p (simp append-nil (wrote_within 86 3182 _ b d at p (omega arith) (head Refused k)))
+  pub answer_refused : (x : Refusal) → f ≡ Err x → Wrote 3182 (answer_text l n) b d at p
+  answer_refused x k = whole (Err x) k d p (simp append-nil (wrote_within 86 3182 _ b d at p (omega arith) (head (Err x) k)))
 
 pub ruleset answer_cases = (forced_fit, forced_few, forced_short, forced_twelve, answer_forced, answer_held, answer_refused)

@@ -1,5 +1,5 @@
 -- What is shown of what `contest` prints (docs/SPECIFICATION.md §13.4). Statements only.
-use Rattle.std.specs.Prelude.{ℕ, ◌≤◌, ◌<◌, ◌≡◌, true, List, [], ◌∷◌, ◌++◌, length}
+use Rattle.std.specs.Prelude.{ℕ, ◌≤◌, ◌<◌, ◌≡◌, true, List, [], ◌∷◌, ◌++◌, length, Ok}
 use Rattle.edf.specs.Demand.{demand}
 use Rattle.game.specs.Game.{opening, Wins, line_to}
 use Rattle.lines.specs.Text.{line_text}
@@ -23,7 +23,7 @@ pub record Printed (l : List ℕ) (n : ℕ) : Type 0 where
   pub whole : (c i : ℕ) → line_to (tasks_of l) t c i ≡ true → (c < t) × (i < (tasks_of l).rows)
 
 abbrev pub PrintedLineWins : Type 0
-PrintedLineWins = (l : List ℕ) (n : ℕ) → search_of l n ≡ Forced → Printed l n
+PrintedLineWins = (l : List ℕ) (n : ℕ) → search_of l n ≡ Ok Forced → Printed l n
 
 -- EVERY INPUT GETS AN ANSWER: no output is empty
 abbrev pub NeverEmpty : Type 0

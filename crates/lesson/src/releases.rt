@@ -75,8 +75,10 @@ pub fn put_answer(words: &[u32], n: u64, out: &mut [u8], at: usize) -> usize
     let v = gametree::shown(f);
     let e = put_line(out, at, 0, b'N', v.number, v.first, v.second);
     match f {
-        Finding::Forced => put_releases(words, first_over(words, n), out, e),
-        Finding::Held => e,
-        Finding::Refused => e,
+        Ok(finding) => match finding {
+            Finding::Forced => put_releases(words, first_over(words, n), out, e),
+            Finding::Held => e,
+        },
+        Err(_) => e,
     }
 }

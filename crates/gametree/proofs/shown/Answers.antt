@@ -1,12 +1,15 @@
-use Rattle.gametree.specs.Entry.{shown_cases}
+use Rattle.gametree.specs.Entry.{numbers_of}
 use borrow.Author.Rules.{rules}
 use Rattle.gametree.proofs.shown.Goals as goal
 
-pub returns-in-Forced : goal.returns-in-Forced
-returns-in-Forced c = search (rules, shown_cases)
+pub returns-in-Ok-Forced : goal.returns-in-Ok-Forced
+unfolding numbers_of
+returns-in-Ok-Forced c = search rules
 
-pub returns-in-Held : goal.returns-in-Held
-returns-in-Held c = search (rules, shown_cases)
+pub returns-in-Ok-Held : goal.returns-in-Ok-Held
+unfolding numbers_of
+returns-in-Ok-Held c = search rules
 
-pub returns-in-Refused : goal.returns-in-Refused
-returns-in-Refused c = search (rules, shown_cases)
+pub returns-in-Err-BrokenRules : goal.returns-in-Err-BrokenRules
+unfolding numbers_of
+returns-in-Err-BrokenRules c = search rules

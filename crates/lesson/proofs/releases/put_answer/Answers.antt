@@ -14,5 +14,5 @@ returns-in-Forced c = search (rules, answer_cases)
 pub returns-in-Held : goal.returns-in-Held
 returns-in-Held c = search (rules, answer_cases)
 
-pub returns-in-Refused : goal.returns-in-Refused
-returns-in-Refused c = search (rules, answer_cases)
+pub returns-in-Err : goal.returns-in-Err
+returns-in-Err c = search (rules, answer_cases)
