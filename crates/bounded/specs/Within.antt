@@ -8,14 +8,6 @@ pub record Within (b x r : ℕ) : Type 0 where
   pub is : r ≡ x
   pub small : r ≤ b
 
--- a test as a number: 1 where it passes
-
-pub one_on : (b : Bool) → b ≡ true → Within 1 (gate b 1) 1
-one_on b e = record { is = sym (gate_on b 1 e); small = omega arith }
-
-pub one_off : (b : Bool) → b ≡ false → Within 1 (gate b 1) 0
-one_off b e = record { is = sym (gate_off b 1 e); small = omega arith }
-
 -- a number that the code adds up but where a test passes
 
 pub gate_none : (b x : ℕ) (m : Bool) → m ≡ true → Within b (gate (not m) x) 0

@@ -12,7 +12,7 @@ ghost use Rattle.calls.specs.Code.{pending_by, load_by, looked_at_lem, budget_by
 
 use session::sound::check_of;
 use session::{Answer, Job, Outcome, Session, refuse};
-use table::budgets::{below_zero, value_of};
+use table::budgets::value_of;
 use table::demand::owe;
 use table::inverse::{Prepared, inverses_of, prepare, prepare_alone};
 use table::rows::{Task, fit_row};
@@ -169,7 +169,7 @@ fn brittle_row(s: Session, inverses: &[u64; 16], row: u64) -> bool
     let words = s.words;
     let e = 3 * (count as usize);
     let v = value_of(&words[..e], inverses, row as usize);
-    below_zero(v)
+    v < 0
 }
 
 // `arrive_sound` in a mixed session: V of the row and its new job's budget share the inverses.

@@ -8,7 +8,7 @@ use Rattle.std.proofs.lemmas.List.{get_or-replicate}
 use borrow.Author.Tests.{le-leb, lt-leb, eq-eqb, ne_eqb}
 use Rattle.bounded.specs.Tests.{both}
 use Rattle.bounded.specs.Fold.{fold_to}
-use Rattle.table.specs.Rows.{horizon, tasks_of, Wide}
+use Rattle.table.specs.Rows.{horizon, tasks_of}
 use Rattle.table.specs.Budgets.{brittle}
 use Rattle.table.specs.Statement.{HasKind}
 use Rattle.session.specs.declared.Session.{Session}
@@ -97,9 +97,9 @@ unfoldable pub nearer_by : ℕ → Bool → ℕ → ℕ → ℕ → ℕ
 nearer_by m b next clock d = cond b (min m (next - clock + d)) m
 
 module _ (m : ℕ) (b : Bool) (next clock d : ℕ) where
-  pub nearer_brittle : (x y r : ℕ) → b ≡ true → x ≡ next - clock → Wide d y → r ≡ min m (x + y) → r ≡ nearer_by m b next clock d
+  pub nearer_brittle : (x y r : ℕ) → b ≡ true → x ≡ next - clock → y ≡ d → r ≡ min m (x + y) → r ≡ nearer_by m b next clock d
   unfolding nearer_by
-  nearer_brittle x y r t e w g = g ∙ rw (e, w.same) (sym (simp t))
+  nearer_brittle x y r t e w g = g ∙ rw (e, w) (sym (simp t))
 
   pub nearer_other : b ≡ false → m ≡ nearer_by m b next clock d
   unfolding nearer_by

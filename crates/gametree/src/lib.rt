@@ -33,7 +33,7 @@ fn playable(words: &[u32], n: u64) -> bool
     ensures { result ≡ playable_of words.now n }
 {
     let len = words.len();
-    len != 0 && len <= 9 && len % 3 == 0 && n != 0 && n <= 12 && count(words) <= first_broken(words)
+    len != 0 && len <= 9 && len % 3 == 0 && n != 0 && n <= 12 && first_broken(words).is_none()
 }
 
 // Whether arrivals can force a job unfinished at its deadline within n ticks.

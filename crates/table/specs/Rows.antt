@@ -1,7 +1,7 @@
 -- The rows of a table and their rule (docs/SPECIFICATION.md §2.1). Assumes nothing.
-use Rattle.std.specs.Prelude.{ℕ, ◌+◌, ◌*◌, ◌/◌, ◌≤◌, ◌<◌, ◌^◌, ◌≡◌, Bool, false, not, ◌&&◌, Option, MatchOption, List, leb, length, get_or}
-use Rattle.std.proofs.Common.{arith}
-use borrow.Author.Tests.{leb-true, not-false}
+use Rattle.std.specs.Prelude.{ℕ, ◌+◌, ◌*◌, ◌/◌, ◌≤◌, ◌<◌, ◌^◌, ◌≡◌, Bool, false, not, ◌&&◌, Option, Some, None, MatchOption, is_none, List, leb, length, get_or}
+use Rattle.std.proofs.Common.{sym, arith}
+use borrow.Author.Tests.{leb-true, not-false, le-leb, lt-leb}
 use Rattle.bounded.specs.Tests.{and-true}
 use Rattle.bounded.specs.Least.{least_from, least_before}
 use Rattle.edf.specs.Demand.{TaskSet, Lawful}
@@ -35,11 +35,11 @@ first_broken_lem τ = least_from (broken τ) 0 τ.rows
 abbrev pub FirstBroken : TaskSet → Option ℕ → Type 0
 FirstBroken τ r = MatchOption r (τ.rows ≡ first_broken_lem τ) (λ i. (i ≡ first_broken_lem τ) × (i < τ.rows))
 
--- ---- what the code reads
+pub none_broken : (τ : TaskSet) (r : Option ℕ) → FirstBroken τ r → is_none r ≡ leb τ.rows (first_broken_lem τ)
+none_broken τ None f = sym (le-leb τ.rows (first_broken_lem τ) (omega arith))
+none_broken τ (Some i) f = sym (lt-leb τ.rows (first_broken_lem τ) (omega (arith, f.0, f.1)))
 
-pub record Wide (x r : ℕ) : Type 0 where
-  pub same : r ≡ x
-  pub below : x < 2 ^ 32
+-- ---- what the code reads
 
 -- k is row i
 pub record Row (τ : TaskSet) (i : ℕ) (k : Task) : Type 0 where

@@ -52,19 +52,6 @@ fn minus(a: u64, b: u64, c: u64) -> i64
     (a as i64) - (b as i64) - (c as i64)
 }
 
-pub fn below_zero(v: i64) -> bool
-    ensures { result ≡ negative v }
-{
-    v < 0
-}
-
-// |v|, for whoever writes v down.
-pub fn magnitude(v: i64) -> u64
-    ensures { result ≡ nat_abs v }
-{
-    v.unsigned_abs()
-}
-
 // V of row i: D, less C, less what the others can take until the deadline. Internal: its callers have tested the rows, or have
 // a sound session.
 pub fn value_of(words: &[u32], inverses: &[u64; 16], i: usize) -> i64

@@ -12,12 +12,6 @@ pub struct Task {
     pub deadline: u64,
 }
 
-pub fn wide(x: u32) -> u64
-    ensures { Wide x result }
-{
-    x as u64
-}
-
 // Row i. Its callers loop over the rows that there are.
 pub fn row_at(words: &[u32], i: usize) -> Task
     requires { i < (tasks_of words.now).rows }

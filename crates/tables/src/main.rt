@@ -7,14 +7,15 @@ ghost use Rattle.table.specs.Rows.{tasks_of, Fit};
 
 use std::fmt::Display;
 use std::io;
+use table::Judgement;
 use table::first::{Counted, first};
 
 fn put<D: Display + Drop>(rt: &impl Print, n: D) -> io::Result<()> {
     print!(rt; "{n}\t")
 }
 
-fn put_budgets(rt: &impl Print, values: [i64; 16], rows: u64) -> io::Result<()> {
-    for &v in &values[..rows.min(16) as usize] {
+fn put_budgets(rt: &impl Print, j: Judgement) -> io::Result<()> {
+    for &v in &j.budgets[..j.rows.min(16)] {
         put(rt, v)?;
     }
     Ok(())
@@ -43,13 +44,13 @@ fn put_sums(rt: &impl Print, words: &[u32]) -> io::Result<()>
 }
 
 fn answer(rt: &impl Print, words: &[u32]) -> io::Result<()> {
-    let a = table::opinion(words);
-    let n = table::shown(a.verdict);
+    let opinion = table::opinion(words);
+    let n = table::shown(opinion);
     put(rt, n.number)?;
     put(rt, n.first)?;
     put(rt, n.second)?;
-    if n.number == 0 {
-        put_budgets(rt, a.budgets, n.second)?;
+    if let Ok(j) = opinion {
+        put_budgets(rt, j)?;
     }
     if n.number != 1 && n.number != 2 {
         put_sums(rt, words)?;
