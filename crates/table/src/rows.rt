@@ -1,6 +1,6 @@
 // The rows of a table and their rule (docs/SPECIFICATION.md §2.1).
 ghost use Rattle.std.specs.Prelude.{◌≡◌, ◌<◌, length};
-ghost use Rattle.table.specs.Rows.{tasks_of, broken, FirstBroken, Wide, Row, Fit, FitRow};
+ghost use Rattle.table.specs.Rows.{tasks_of, broken, FirstBroken, Row, Fit, FitRow};
 ghost use Rattle.table.specs.Words.{words_with};
 
 // A row: C, the longest run (worst-case execution time); T, the least time between arrivals (period); D, the time from
