@@ -1,6 +1,6 @@
 -- The walk over the records, place by place, is the walk over their list (docs/SPECIFICATION.md §5.9). Assumes nothing.
 use Rattle.std.specs.Prelude.{ℕ, zero, suc, ◌+◌, ◌≡◌, refl, Bool, true, false, Option, Some, MatchOption, List, [], ◌∷◌, length, get_or, set}
-use Rattle.std.proofs.Common.{sym, ap, ◌∙◌, add-one}
+use Rattle.std.proofs.Common.{ap, ◌∙◌, add-one}
 use Rattle.bounded.specs.Fold.{fold_to}
 use Rattle.table.specs.Inverse.{Inverses}
 use Rattle.session.specs.declared.Session.{Session}
@@ -44,11 +44,11 @@ module _ (s : Session) (row : ℕ) (o : Outcome) (jobs : length s.jobs ≡ 16) (
       let e : o ≡ arrive_of s row = checked_yes s o (arrive_in s row) k.found h in (
         e,
         rw is
-        (record {
-          found = rw e (arrive_sound s row jobs words ∙ k.found);
-          marks = rw e (arrive_marks s row g.brittle k.marks);
-          inverses = rw (e, arrive_rows s row) k.inverses;
-        }),
+            (record {
+              found = rw e (arrive_sound s row jobs words ∙ k.found);
+              marks = rw e (arrive_marks s row g.brittle k.marks);
+              inverses = rw (e, arrive_rows s row) k.inverses;
+            }),
       )
 
   pub checked_out : sound s ≡ false → o ≡ refused s Unsound → (o ≡ arrive_of s row) × (sound o.session ≡ false)

@@ -1,6 +1,6 @@
 -- A start: from a slice of numbers to the fresh session, or to the refusal of the table (docs/SPECIFICATION.md §5.1).
 -- Assumes nothing.
-use Rattle.std.specs.Prelude.{ℕ, zero, suc, ◌+◌, ◌/◌, ◌≤◌, min, ◌≡◌, refl, cond, Result, Ok, Err, List, [], ◌∷◌, ◌++◌, eqb, length, get_or, set, take, drop, replicate}
+use Rattle.std.specs.Prelude.{ℕ, zero, suc, ◌/◌, ◌≤◌, min, ◌≡◌, refl, cond, Result, Ok, Err, List, [], ◌∷◌, ◌++◌, eqb, length, get_or, set, take, drop, replicate}
 use Rattle.std.proofs.Common.{sym, ap, ◌∙◌, arith, eq-eqb, ne_eqb}
 use Rattle.std.proofs.Math.Seq.{length-take-le, take-suc, drop-cons, set-append_seam}
 use Rattle.std.proofs.lemmas.List.{append_assoc, length-replicate}

@@ -1,4 +1,4 @@
-use Rattle.std.proofs.Common.{◌*◌, ◌-◌, ◌≡◌, ◌≤◌}
+use Rattle.std.proofs.Common.{◌*◌, ◌≡◌, ◌≤◌}
 use Rattle.bounded.specs.Sum.{sum_to}
 use Rattle.table.specs.Rows.{tasks_of}
 use Rattle.calls.specs.Code.{asked_of, Asking}

@@ -1,4 +1,4 @@
-use Rattle.std.proofs.Common.{◌-◌, ◌≡◌, ◌≤◌}
+use Rattle.std.proofs.Common.{◌≡◌}
 use Rattle.session.specs.Calls.{given_job}
 use Rattle.session.specs.Jobs.{done_to}
 use Rattle.calls.proofs.finish.finished.Given as goal

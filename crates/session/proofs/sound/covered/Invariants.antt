@@ -1,4 +1,4 @@
-use Rattle.std.proofs.Common.{true, ◌-◌, ◌≡◌, ◌≤◌}
+use Rattle.std.proofs.Common.{true, ◌≡◌}
 use Rattle.bounded.specs.All.{all_to}
 use Rattle.session.specs.Sound.{affords}
 use Rattle.session.proofs.sound.covered.Given as goal

@@ -1,4 +1,4 @@
-use Rattle.std.proofs.Common.{true, ◌-◌, ◌≡◌, ◌≤◌}
+use Rattle.std.proofs.Common.{true, ◌≡◌}
 use Rattle.bounded.specs.All.{all_to}
 use Rattle.session.specs.Sound.{sound_job}
 use Rattle.session.proofs.sound.jobs_sound.Given as goal
