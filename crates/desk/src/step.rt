@@ -8,12 +8,12 @@ use lines::read::Line;
 use lines::write::put_line;
 use table::rows::put_row;
 
-// What the lines so far have led to, besides the rows of the table at hand.
+// What the lines so far have led to, besides the rows of the table at hand: those are in an array beside it, since there is no heap.
 #[derive(Clone, Copy)]
 pub struct Progress {
     // How many rows it has.
     pub count: usize,
-    // Whether a line of it was unreadable.
+    // Whether a line of it was unreadable. No Option in place of the count: the rows of a spoiled table are counted too.
     pub spoiled: bool,
     // The number of the next line.
     pub line: u64,
@@ -21,7 +21,8 @@ pub struct Progress {
     pub end: usize,
 }
 
-// Prints that the line is unreadable, which spoils its table.
+// Prints that the line is unreadable, which spoils its table. `lesson` has one over its own record, and ends there: one function
+// for both would have to be told what follows.
 fn unreadable(p: Progress, out: &mut [u8]) -> Progress
     requires { Ready p out.old }
     ensures { Unread p result out.old out.new }

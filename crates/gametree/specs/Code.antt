@@ -3,7 +3,7 @@ use Prim.Native.Nat.{ℕ, zero, suc, ◌+◌, ◌-◌, ◌≤◌, ◌<◌}
 use Rattle.std.specs.Prelude.{◌≡◌, refl, Bool, true, false, not, ◌&&◌, ◌||◌, leb, ltb, set}
 use Rattle.std.proofs.Math.Path.{sym}
 use Rattle.std.proofs.Common.{ap, ◌∙◌, le-leb, lt-ltb, le-ltb}
-use Rattle.std.proofs.Math.Bool.{and-true, or-true, not-not}
+use Rattle.std.proofs.Math.Bool.{and-true, or-true}
 use native.Mathlib.Omega.{arith}
 use Rattle.std.proofs.lemmas.Bool.{lt-leb}
 use Rattle.bounded.specs.All.{all_to}
@@ -11,7 +11,6 @@ use Rattle.bounded.proofs.AllLaws.{all_fails}
 use Rattle.edf.specs.Demand.{TaskSet}
 use Rattle.table.specs.declared.rows.Task.{Task}
 use Rattle.table.specs.Rows.{FitRow}
-use Rattle.gametree.specs.declared.board.Slot.{Slot}
 use Rattle.gametree.specs.declared.board.Board.{Board}
 use Rattle.gametree.specs.Search.{slot_at, released_of, played_of, may_of, late_by, missed_of, some_of, lost_by, forced_of}
 

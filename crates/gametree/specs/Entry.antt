@@ -1,8 +1,8 @@
 -- The search's answer on any slice and any number (docs/SPECIFICATION.md §13.2). Assumes nothing.
-use Rattle.std.specs.Prelude.{ℕ, ◌%◌, ◌≤◌, ◌<◌, ◌≡◌, Bool, true, false, not, ◌&&◌, cond, List, leb, eqb, length, replicate, Result, Ok, Err}
+use Rattle.std.specs.Prelude.{ℕ, ◌%◌, ◌≡◌, Bool, true, false, not, ◌&&◌, cond, List, leb, eqb, length, replicate, Result, Ok, Err}
 use Rattle.std.proofs.Math.Path.{sym}
 use Rattle.std.proofs.Common.{ap, ◌∙◌}
-use borrow.Author.Tests.{le-leb, lt-leb, leb-true, eq-eqb, ne_eqb, eqb-true, eqb-false, not-true}
+use borrow.Author.Tests.{leb-true, eqb-true, eqb-false, not-true}
 use Rattle.bounded.specs.Tests.{and-true}
 use Rattle.table.specs.declared.Numbers.{Numbers}
 use Rattle.table.specs.Rows.{tasks_of, first_broken_lem}

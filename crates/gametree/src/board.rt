@@ -39,6 +39,7 @@ pub fn released(words: &[u32], b: Board, i: usize) -> Board
 }
 
 // The scheduler gives the tick to row m, or to none where m is 3. Internal: `tree` counts the ticks.
+// No Option: `tree::each` counts the four moves down, and the game's definitions number them so (specs/Search.antt).
 pub fn played(b: Board, m: usize) -> Board
     requires { (b.clock < 12) × (m ≤ 3) }
     ensures { (result ≡ played_of b m) × (result.clock ≡ b.clock + 1) }

@@ -8,7 +8,7 @@ use crate::releases::put_answer;
 use lines::write::put_line;
 use table::rows::put_row;
 
-// What the lines so far have led to, besides the rows of the table.
+// What the lines so far have led to, besides the rows of the table: those are in an array beside it, since there is no heap.
 #[derive(Clone, Copy)]
 pub struct Progress {
     // How many rows it has.

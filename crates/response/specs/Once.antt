@@ -1,6 +1,6 @@
 -- Each job has one line: `EachJobOnce` of Statement.antt. As many entries get an end as lines `E` are printed, and those without one are as
 -- many as the rows whose job waits. Assumes nothing.
-use Rattle.std.specs.Prelude.{ℕ, zero, suc, ◌/◌, ◌+◌, ◌-◌, ◌≤◌, ◌<◌, ◌≡◌, refl, Bool, not, cond, List, [], ◌∷◌, ◌++◌, ltb, eqb, length}
+use Rattle.std.specs.Prelude.{ℕ, zero, suc, ◌/◌, ◌+◌, ◌≤◌, ◌<◌, ◌≡◌, refl, Bool, not, cond, List, [], ◌∷◌, ◌++◌, ltb, eqb, length}
 use Rattle.std.proofs.Math.Path.{sym}
 use Rattle.std.proofs.Common.{ap, ◌∙◌}
 use Rattle.std.proofs.Math.Bool.{true, false}
@@ -24,7 +24,7 @@ use Rattle.session.specs.Facts.{Running}
 use Rattle.session.specs.Calls.{shown, over_by, over_after}
 use Rattle.session.specs.Start.{no_session}
 use Rattle.guarantee.specs.Effects.{Effect, refusal, arrived, chosen, advanced, finished, effect_of}
-use Rattle.guarantee.specs.Ledger.{Call, arrive, choose, advance, finish, Event, End, none, Entry, Ledger, empty, ran, ended as ended_entry, on_latest, noted, kept}
+use Rattle.guarantee.specs.Ledger.{Call, arrive, choose, advance, finish, Event, End, Entry, Ledger, empty, ran, ended as ended_entry, on_latest, noted, kept}
 use Rattle.guarantee.specs.History.{unended, counts_after}
 use Rattle.guarantee.specs.TiesRow.{Stands, over, waiting, Follows, nothing, other, latest}
 use Rattle.guarantee.specs.After.{event_of}

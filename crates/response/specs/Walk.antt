@@ -23,7 +23,6 @@ use Rattle.table.proofs.TheoremsLaws.{opinion_fit}
 use Rattle.session.specs.declared.Session.{Session}
 use Rattle.session.specs.declared.Answer.{Answer}
 use Rattle.session.specs.Reading.{job_at, waits}
-use Rattle.session.specs.Sound.{sound}
 use Rattle.session.specs.Facts.{Choice, facts_of}
 use Rattle.session.specs.declared.Outcome.{Outcome}
 use Rattle.session.specs.Calls.{Shown, shown}

@@ -1,5 +1,5 @@
 -- What the code keeps of the ledger: the session, and the inversion ticks of each row's waiting job (docs/SPECIFICATION.md §14.4). Assumes nothing.
-use Rattle.std.specs.Prelude.{ℕ, ◌+◌, ◌-◌, ◌≤◌, ◌<◌, ◌≡◌, true, false, cond, ◌⊎◌, eqb, length, set}
+use Rattle.std.specs.Prelude.{ℕ, ◌+◌, ◌-◌, ◌≤◌, ◌<◌, ◌≡◌, true, false, cond, eqb, length, set}
 use Rattle.std.proofs.Math.Path.{refl, sym, ap}
 use Rattle.std.proofs.Common.{◌∙◌, true≢false, length-set, get_or-set_other}
 use mathlib.Core.List.{List, [], ◌∷◌}
@@ -18,7 +18,7 @@ use Rattle.session.specs.declared.Session.{Session}
 use Rattle.session.specs.declared.Answer.{Answer}
 use Rattle.session.specs.Reading.{idle, job_at, waits, ahead}
 use Rattle.session.specs.Facts.{Running, Choice}
-use Rattle.session.specs.Calls.{Shown, shown, changed, aged_job, over_by, over_after, given_job}
+use Rattle.session.specs.Calls.{Shown, shown, aged_job, over_by, over_after, given_job}
 use Rattle.session.specs.Arrive.{with_arrived, arrived_other}
 use Rattle.guarantee.specs.Ledger.{Call, arrive, choose, advance, finish, Event, Ledger, ran, ended, noted, kept}
 use Rattle.guarantee.specs.Statement.{outcome_of}

@@ -7,7 +7,6 @@ ghost use Rattle.lines.specs.Lines.{lines_of};
 ghost use Rattle.transcript.specs.Transcript.{input_limit, printed_of, room_for, Transcribed};
 ghost use Rattle.transcript.specs.Plays.{room_of};
 
-
 pub mod opening;
 mod play;
 pub mod rows;

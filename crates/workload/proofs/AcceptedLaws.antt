@@ -1,21 +1,17 @@
 -- More laws of specs/Accepted.antt: they rest on what a must-fail edit makes false. Assumes nothing.
-use Rattle.std.specs.Prelude.{◌≡◌, ℕ, zero, suc, ◌+◌, ◌-◌, ◌*◌, ◌<◌, ◌≤◌, min, true, false, List, [], ◌∷◌, length, nat_lt, refl}
-use Rattle.std.proofs.Common.{sym, ◌∙◌, true≢false, mul-le-mul_left, arith}
+use Rattle.std.specs.Prelude.{◌≡◌, ℕ, zero, suc, ◌+◌, ◌-◌, ◌<◌, ◌≤◌, min, true, false, List, [], ◌∷◌, length, nat_lt, refl}
+use Rattle.std.proofs.Common.{sym, ◌∙◌, true≢false, arith}
 use Rattle.std.proofs.Math.Path.{ap}
 use borrow.Author.Tests.{ltb-true, ltb-false, lt-ltb}
-use Rattle.bounded.specs.Tests.{both, gate, gate_off, gate_le}
-use Rattle.bounded.specs.Sum.{sum_le, sum_const, sum_zero}
+use Rattle.bounded.specs.Tests.{both, gate, gate_off}
+use Rattle.bounded.specs.Sum.{sum_zero}
 use Rattle.table.specs.Verdict.{opinion_of}
-use Rattle.lines.specs.declared.read.Call.{Call}
 use Rattle.lines.specs.declared.read.Call.TheVariants.{Arrive, Choose, Advance}
 use Rattle.lines.specs.declared.read.Line.{Line}
 use Rattle.lines.specs.declared.read.Line.TheVariants.{Word, Call as CallLine}
-use Rattle.lines.specs.Input.{Narrow, AllNarrow}
 use Rattle.session.specs.declared.Job.{Job}
 use Rattle.session.specs.declared.Session.{Session}
 use Rattle.session.specs.Reading.{job_at}
-use Rattle.session.specs.Calls.{shown}
-use Rattle.session.specs.Facts.{facts_of}
 use Rattle.session.specs.Start.{no_session, fresh_of, session_of, start_fresh}
 use Rattle.guarantee.specs.KeepsFresh.{fresh_job, good_fresh}
 use Rattle.transcript.specs.Step.{queue_limit, call_of, step_of}
@@ -24,7 +20,7 @@ use Rattle.workload.specs.Table.{row_count, table_of}
 use Rattle.workload.specs.Trial.{Trial, ready_row_lem, ready, until_next_lem, line_by_lem, line_for, onward, lines_from, trial_start}
 use Rattle.workload.specs.Statement.{count_of}
 use Rattle.workload.specs.Loose.{count_few, table_rows, every_heavy}
-use Rattle.workload.specs.Stands.{next_at, running, ready_row, choose_is, Stand, rows, period, gives, chooses, step_few}
+use Rattle.workload.specs.Stands.{next_at, running, ready_row, choose_is, Stand, rows, gives, chooses, step_few}
 use Rattle.workload.proofs.StandsLaws.{row_ready, arrived_is, arrives, advanced_is, steps}
 use Rattle.workload.specs.Accepted.{Follows, past, Played, lines_length, enough, queued, answered}
 

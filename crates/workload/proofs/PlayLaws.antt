@@ -1,26 +1,18 @@
 -- More laws of specs/Play.antt: they rest on what a must-fail edit makes false. Assumes nothing.
-use Rattle.std.specs.Prelude.{◌≡◌, ℕ, suc, ◌+◌, ◌-◌, ◌*◌, ◌<◌, ◌≤◌, Bool, true, false, List, [], ◌∷◌, ◌++◌, length, take, drop, replicate, ◌≢◌, slice_set, refl}
-use Rattle.std.proofs.Common.{sym, subst, ◌∙◌, drop-drop, lt-ltb}
+use Rattle.std.specs.Prelude.{◌≡◌, ℕ, suc, ◌+◌, ◌-◌, ◌*◌, ◌<◌, ◌≤◌, false, List, [], ◌∷◌, ◌++◌, length, replicate, refl}
+use Rattle.std.proofs.Common.{sym, subst, ◌∙◌}
 use Rattle.std.proofs.Math.Path.{ap}
 use native.Mathlib.Omega.{arith}
-use Rattle.std.proofs.Math.ListN.{length-set}
 use Rattle.std.proofs.lemmas.List.{length-replicate}
-use Rattle.decimal.specs.Buffer.{Wrote, Owing, owing_start, owing_next, owing_done}
-use Rattle.lines.specs.declared.read.Call.{Call}
+use Rattle.decimal.specs.Buffer.{Wrote, owing_start, owing_next}
 use Rattle.lines.specs.declared.read.Line.{Line}
-use Rattle.lines.specs.declared.read.Line.TheVariants.{Row, Word, Call as CallLine, Empty, Unreadable}
 use Rattle.lines.specs.Input.{input_line, input_text}
 use Rattle.session.specs.declared.Session.{Session}
-use Rattle.session.specs.declared.Outcome.{Outcome}
-use Rattle.session.specs.Sound.{sound}
 use Rattle.session.specs.Start.{session_of}
-use Rattle.transcript.specs.Step.{queue_limit, call_of, step_of}
-use Rattle.transcript.specs.Play.{queue_length, queue_push, call_used}
 use Rattle.workload.specs.declared.play.Progress.{Progress}
 use Rattle.workload.specs.Table.{row_count, table_of}
-use Rattle.workload.specs.Trial.{Trial, trial_lines, line_by_lem, line_for, given_after_call, onward, lines_from, trial_start, call_lines}
-use Rattle.workload.specs.Loose.{count_few}
-use Rattle.workload.specs.Stands.{Stand, rows}
+use Rattle.workload.specs.Trial.{Trial, trial_lines, line_by_lem, line_for, onward, lines_from, trial_start, call_lines}
+use Rattle.workload.specs.Stands.{rows}
 use Rattle.workload.proofs.AcceptedLaws.{next_line, first_stand}
 use Rattle.workload.specs.Play.{trial_in, Ready, Went, Held, stands, Playing, play_rows, play_sound, play_ready, play_room, play_done, held}
 

@@ -1,33 +1,31 @@
 -- How a trial stands after each line, so that the next line is accepted and enough of each kind come. Assumes nothing.
 -- ---- the least of b and what f says of 0, .., n - 1
-use Rattle.std.specs.Prelude.{◌≡◌, ℕ, zero, suc, ◌+◌, ◌-◌, ◌*◌, ◌<◌, ◌≤◌, min, Bool, true, false, cond, not, ◌&&◌, ◌⊎◌, List, [], ◌∷◌, ◌++◌, length, drop, ◌==◌, nat_le, nat_lt, slice_set}
-use Rattle.std.proofs.Math.Path.{refl, ap}
-use Rattle.std.proofs.Common.{sym, ◌∙◌, true≢false, get_or-set_same, get_or-set_other}
-use Rattle.std.proofs.Math.Logic.{dite, inl, inr, ⊎_elim}
+use Rattle.std.specs.Prelude.{◌≡◌, ℕ, zero, suc, ◌+◌, ◌-◌, ◌*◌, ◌<◌, ◌≤◌, min, Bool, true, false, not, ◌&&◌, List, [], ◌∷◌, ◌++◌, length, drop, nat_le, nat_lt}
+use Rattle.std.proofs.Math.Path.{ap}
+use Rattle.std.proofs.Common.{sym, ◌∙◌, true≢false}
+use Rattle.std.proofs.Math.Logic.{dite}
 use native.Mathlib.Omega.{arith}
-use Rattle.std.proofs.Math.Decide.{dec_lt, ℕ_discrete}
+use Rattle.std.proofs.Math.Decide.{ℕ_discrete}
 use Rattle.std.proofs.Math.ListN.{length-append, length-drop}
-use borrow.Author.Tests.{leb-true, leb-false, ltb-true, ltb-false, lt-leb, lt-ltb, le-ltb, ne_eqb}
-use Rattle.bounded.specs.Tests.{both, and_both, gate, gate_on, gate_off}
-use Rattle.bounded.specs.Sum.{sum_to, sum_eq, sum_eq_at}
+use borrow.Author.Tests.{leb-true, ltb-true, lt-leb, lt-ltb, le-ltb, ne_eqb}
+use Rattle.bounded.specs.Tests.{and_both, gate, gate_on, gate_off}
+use Rattle.bounded.specs.Sum.{sum_to}
 use Rattle.bounded.specs.Fold.{fold_to}
-use Rattle.bounded.specs.Least.{least_at, least_before}
+use Rattle.bounded.specs.Least.{least_at}
 use Rattle.table.specs.Rows.{horizon, tasks_of}
-use Rattle.lines.specs.declared.read.Call.TheVariants.{Arrive, Choose, Advance}
+use Rattle.lines.specs.declared.read.Call.TheVariants.{Choose}
 use Rattle.lines.specs.declared.read.Line.{Line}
 use Rattle.lines.specs.declared.read.Line.TheVariants.{Word, Call as CallLine}
-use Rattle.session.specs.declared.Job.{Job}
 use Rattle.session.specs.declared.Session.{Session}
 use Rattle.session.specs.declared.Answer.TheVariants.{Chosen}
-use Rattle.session.specs.Reading.{no_job, job_at, tasks, clock_end}
+use Rattle.session.specs.Reading.{job_at, tasks, clock_end}
 use Rattle.session.specs.Sound.{sound}
 use Rattle.session.specs.Choose.{pick_of, pick_used, used_of, span_of}
-use Rattle.session.specs.Calls.{changed, arrived_job, arrived_of, arrive_in, arrive_of, choose_in, choose_of, jobs_with, aged_job, stepped_of, advance_in, advance_of}
-use Rattle.session.specs.Facts.{Choice, facts_of}
-use Rattle.guarantee.specs.Ledger.{arrive, choose, advance}
-use Rattle.guarantee.specs.Good.{Good, good_places}
+use Rattle.session.specs.Calls.{changed, arrived_of, arrive_in, arrive_of, choose_in, choose_of, stepped_of, advance_in, advance_of}
+use Rattle.session.specs.Facts.{facts_of}
+use Rattle.guarantee.specs.Ledger.{choose}
+use Rattle.guarantee.specs.Good.{Good}
 use Rattle.guarantee.specs.Keeps.{good_call}
-use Rattle.guarantee.specs.KeepsJobs.{aged_passed, aged_worked}
 use Rattle.guarantee.specs.Exact.{span_some}
 use Rattle.workload.specs.Table.{row_count, table_of}
 use Rattle.workload.specs.Trial.{Trial, ready_row_lem, ready, until_next_lem}

@@ -1,4 +1,3 @@
-use Rattle.std.proofs.Common.{◌≤◌}
 use Rattle.bounded.specs.Least.{Passed}
 use Rattle.table.specs.Rows.{tasks_of}
 use Rattle.lesson.specs.Put.{over}

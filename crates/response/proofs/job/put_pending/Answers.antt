@@ -1,4 +1,3 @@
-use Rattle.std.proofs.Common.{◌-◌}
 use Rattle.response.specs.Put.{pending_laws}
 use borrow.Author.Rules.{rules}
 use Rattle.response.proofs.job.put_pending.Goals as goal

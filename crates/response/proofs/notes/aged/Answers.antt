@@ -1,4 +1,3 @@
-use Rattle.std.proofs.Common.{◌-◌}
 use Rattle.response.specs.Note.{aged_laws}
 use borrow.Author.Rules.{rules}
 use Rattle.response.proofs.notes.aged.Goals as goal

@@ -1,4 +1,4 @@
-use Rattle.std.proofs.Common.{◌≡◌, ◌≤◌}
+use Rattle.std.proofs.Common.{◌≡◌}
 use Rattle.response.specs.Note.{aged_to}
 use Rattle.response.proofs.notes.aged.Given as goal
 

@@ -1,4 +1,3 @@
-use Rattle.std.proofs.Common.{◌-◌}
 use Rattle.response.specs.Responses.{responses_laws}
 use borrow.Author.Rules.{rules}
 use Rattle.response.proofs.responses.responses.Goals as goal

@@ -1,4 +1,3 @@
-use Rattle.std.proofs.Common.{◌≤◌}
 use Rattle.table.specs.Rows.{tasks_of}
 use Rattle.response.specs.Responses.{ResponsesTo}
 use Rattle.response.proofs.responses.responses.Given as goal

@@ -1,4 +1,3 @@
-use Rattle.std.proofs.Common.{◌-◌}
 use Rattle.response.specs.Walk.{any_last, walk_laws}
 use borrow.Author.Rules.{rules}
 use Rattle.response.proofs.walk.walk.Goals as goal

@@ -1,4 +1,3 @@
-use Rattle.std.proofs.Common.{◌-◌}
 use borrow.Author.Rules.{rules}
 use Rattle.transcript.specs.Play.{part_is, step_tells, step_laws}
 use Rattle.transcript.specs.Plays.{play_ready, play_laws}

@@ -1,4 +1,4 @@
-use Rattle.std.proofs.Common.{◌-◌, rules}
+use Rattle.std.proofs.Common.{rules}
 use Rattle.workload.proofs.LineLaws.{ready_laws}
 use Rattle.workload.proofs.line.ready_row.Goals as goal
 

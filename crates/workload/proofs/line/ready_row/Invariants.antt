@@ -1,4 +1,3 @@
-use Rattle.std.proofs.Common.{◌≤◌}
 use Rattle.bounded.specs.Least.{Passed}
 use Rattle.workload.specs.Line.{may_arrive}
 use Rattle.workload.proofs.line.ready_row.Given as goal

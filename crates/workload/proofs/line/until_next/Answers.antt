@@ -1,4 +1,4 @@
-use Rattle.std.proofs.Common.{◌-◌, rules}
+use Rattle.std.proofs.Common.{rules}
 use Rattle.workload.specs.Line.{until_laws}
 use Rattle.workload.proofs.line.until_next.Goals as goal
 

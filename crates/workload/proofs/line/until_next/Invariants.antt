@@ -1,4 +1,4 @@
-use Rattle.std.proofs.Common.{◌≡◌, ◌-◌, ◌≤◌}
+use Rattle.std.proofs.Common.{◌≡◌}
 use Rattle.workload.specs.Line.{until_to}
 use Rattle.workload.proofs.line.until_next.Given as goal
 

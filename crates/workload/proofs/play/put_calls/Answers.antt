@@ -1,7 +1,6 @@
-use Rattle.std.proofs.Common.{arith, rules}
+use Rattle.std.proofs.Common.{rules}
 use Rattle.transcript.specs.Play.{part_is}
 use Rattle.transcript.proofs.NotCall.{not_call}
-use Rattle.workload.specs.Loose.{count_few}
 use Rattle.workload.specs.Play.{aside_went, used_within, went_call}
 use Rattle.workload.proofs.PlayLaws.{turn_ready, play_laws}
 use Rattle.workload.proofs.play.put_calls.Goals as goal

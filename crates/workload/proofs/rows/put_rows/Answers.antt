@@ -1,4 +1,4 @@
-use Rattle.std.proofs.Common.{◌-◌, rules}
+use Rattle.std.proofs.Common.{rules}
 use Rattle.workload.specs.Rows.{tabling_laws}
 use Rattle.workload.proofs.rows.put_rows.Goals as goal
 
