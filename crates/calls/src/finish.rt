@@ -11,7 +11,8 @@ use session::brittle::brittle_rows;
 use session::sound::check_of;
 use session::{Answer, Job, Outcome, Session, refuse};
 
-// Whether j, whose row is brittle or not, gains what a job that is due at `due` leaves unused.
+// Whether j, whose row is brittle or not, gains what a job that is due at `due` leaves unused. The first test stands alone: tried in
+// one `&&`, where `search` does not split a value that two branches join.
 fn gains(j: Job, due: u64, brittle: bool) -> bool
     ensures { result ≡ gains_by j due brittle }
 {

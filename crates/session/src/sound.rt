@@ -39,6 +39,7 @@ fn covered(s: Session, c: u64, due: u64, n: u64) -> bool
     true
 }
 
+// The first tests stand alone: tried in one `&&`, where `search` does not split a value that two branches join.
 fn choice_sound(s: Session) -> bool
     requires { s.count ≤ 16 }
     ensures { result ≡ sound_choice s }
@@ -73,7 +74,7 @@ fn most_budget(brittle: bool, k: Task) -> u64
     if brittle { 0 } else { k.deadline - k.run }
 }
 
-// A row's job, with its task, the clock and the most budget that it may have.
+// A row's job, with its task, the clock and the most budget that it may have. Its first tests stand alone, as in `choice_sound`.
 fn job_sound(j: Job, k: Task, clock: u64, most: u64) -> bool
     requires { Small k clock }
     ensures { result ≡ sound_by j k clock most }
