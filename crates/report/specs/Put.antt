@@ -108,7 +108,7 @@ module _ (a : Result Judgement Refusal) (n : Numbers) (d e : List ℕ) (at p : �
   unfolding opinion_text
   opinion_not rows r is =
       let ne : n.number ≡ 0 → ⊥ =
-          λ z. refusal_some r (sym (ap (λ (v : Result Judgement Refusal). (shown_of v).number) is) ∙ sym g.number ∙ z) in
+      λ z. refusal_some r (sym (ap (λ (v : Result Judgement Refusal). (shown_of v).number) is) ∙ sym g.number ∙ z) in
       rw (shows_of a n g) record {
         wrote = simp (ne_eqb n.number 0 ne, append-nil) (wrote_within 86 1478 _ d e at p (omega arith) x);
         first = x.short;
