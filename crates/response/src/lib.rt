@@ -43,10 +43,14 @@ fn put_besides(
     requires { Says opinion (opinion_of words.now) × (at + 27392 ≤ length out.old) }
     ensures { Wrote 27392 (besides_text words.now) out.old out.new at result }
 {
-    match opinion {
-        Ok(_) => planning::put_costs(words, out, at),
-        Err(Refusal::Overload { at: t, demand }) => planning::put_cuts(words, t, demand, out, at),
-        Err(_) => at,
+    let Err(refusal) = opinion else {
+        return planning::put_costs(words, out, at);
+    };
+    match refusal {
+        Refusal::Overload { at: t, demand } => planning::put_cuts(words, t, demand, out, at),
+        Refusal::Length(_) => at,
+        Refusal::Row(_) => at,
+        Refusal::Unsettled => at,
     }
 }
 

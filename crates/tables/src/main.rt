@@ -52,6 +52,7 @@ fn answer(rt: &impl Print, words: &[u32]) -> io::Result<()> {
     if let Ok(j) = opinion {
         put_budgets(rt, j)?;
     }
+    // By the numbers, which are printed: of them it is shown that the rows keep their rule (`shown_fit`).
     if n.number != 1 && n.number != 2 {
         put_sums(rt, words)?;
     }

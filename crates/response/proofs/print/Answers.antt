@@ -10,8 +10,8 @@ slice_bounds-put_besides-end c = sym (length-take-le _ _ (omega arith))
 pub put_besides-requires : goal.put_besides-requires
 put_besides-requires c = search (rules, print_laws)
 
-pub returns-then-n-ne0 : goal.returns-then-n-ne0
-returns-then-n-ne0 c = search (rules, print_laws)
+pub returns-then-is_err : goal.returns-then-is_err
+returns-then-is_err c = search (rules, print_laws)
 
 pub returns : goal.returns
 returns c = search (rules, print_laws)

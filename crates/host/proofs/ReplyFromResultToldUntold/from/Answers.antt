@@ -1,6 +1,6 @@
 use Rattle.host.specs.Explain.{telling_cases}
 use borrow.Author.Rules.{rules}
-use Rattle.host.proofs.ReplyFromTold.from.Goals as goal
+use Rattle.host.proofs.ReplyFromResultToldUntold.from.Goals as goal
 
 pub returns-in-Ok : goal.returns-in-Ok
 returns-in-Ok c = search (rules, telling_cases)
