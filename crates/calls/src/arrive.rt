@@ -14,7 +14,8 @@ use session::sound::check_of;
 use session::{Answer, Job, Outcome, Session, refuse};
 use table::budgets::value_of;
 use table::demand::owe;
-use table::inverse::{Prepared, inverses_of, prepare, prepare_alone};
+use table::fit::FitTable;
+use table::inverse::{Prepared, inverses_of, prepare_alone};
 use table::rows::{Task, fit_row};
 
 // The remaining ticks of a job that is due by d; where none waits, that is 0.
@@ -100,7 +101,11 @@ impl Prepares for &[u64; 16] {
     ghost serves = { λ v τ. Inverses τ v.now };
 
     fn prepared(self, rows: &[u32], i: usize) -> Prepared {
-        prepare(rows, self, i)
+        let table = FitTable {
+            words: rows,
+            inverses: self,
+        };
+        table.prepare(i)
     }
 }
 
@@ -168,7 +173,11 @@ fn brittle_row(s: Session, inverses: &[u64; 16], row: u64) -> bool
     }
     let words = s.words;
     let e = 3 * (count as usize);
-    let v = value_of(&words[..e], inverses, row as usize);
+    let table = FitTable {
+        words: &words[..e],
+        inverses,
+    };
+    let v = value_of(&table, row as usize);
     v < 0
 }
 

@@ -7,6 +7,7 @@ ghost use Rattle.lesson.specs.Lesson.{overload_by, release_text, tick_text, rele
 use gametree::Finding;
 use lines::write::put_line;
 use table::demand::demand_at;
+use table::fit::FitTable;
 use table::inverse::inverses_of;
 use table::rows::{count, fit_row};
 
@@ -16,9 +17,13 @@ fn first_over(words: &[u32], n: u64) -> u64
     ensures { result ≡ overload_by (tasks_of words.now) n }
 {
     let inverses = inverses_of(words);
+    let table = FitTable {
+        words,
+        inverses: &inverses,
+    };
     let end = n + 1;
     for t in 0..end {
-        if t < demand_at(words, &inverses, t) {
+        if t < demand_at(&table, t) {
             return t;
         }
     }

@@ -3,8 +3,8 @@ ghost use Rattle.table.specs.Rows.{tasks_of, Fit};
 ghost use Rattle.response.specs.Responses.{Responses};
 
 use table::budgets::interfering;
+use table::fit::FitTable;
 use table::inverse::inverses_of;
-use table::rows::{count, fit_row};
 
 // C, and what the other rows can take in D. The table is admitted.
 pub fn responses(words: &[u32]) -> [u64; 16]
@@ -12,11 +12,15 @@ pub fn responses(words: &[u32]) -> [u64; 16]
     ensures { Responses (tasks_of words.now) result }
 {
     let inverses = inverses_of(words);
-    let rows = count(words);
+    let table = FitTable {
+        words,
+        inverses: &inverses,
+    };
+    let rows = table.rows();
     let mut spans = [0u64; 16];
     for i in 0..rows {
-        let k = fit_row(words, i);
-        spans[i] = k.run + interfering(words, &inverses, i, k.deadline);
+        let k = table.row(i);
+        spans[i] = k.run + interfering(&table, i, k.deadline);
     }
     spans
 }

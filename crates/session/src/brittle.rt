@@ -5,6 +5,7 @@ ghost use Rattle.session.specs.Brittle.{Marks};
 
 use super::Session;
 use table::budgets::all_budgets;
+use table::fit::FitTable;
 use table::inverse::inverses_of;
 
 // None is in a loose session, and each is in a tight one. In a mixed one it takes V of each row.
@@ -23,6 +24,10 @@ pub fn brittle_rows(s: Session) -> [bool; 16]
     let e = 3 * (s.count as usize);
     let rows = &words[..e];
     let inverses = inverses_of(rows);
-    let b = all_budgets(rows, &inverses);
+    let table = FitTable {
+        words: rows,
+        inverses: &inverses,
+    };
+    let b = all_budgets(&table);
     b.brittle
 }

@@ -3,13 +3,12 @@ ghost use Rattle.std.specs.Prelude.{◌≡◌, not, ◌&&◌, ◌||◌, ◌+◌,
 ghost use Rattle.bounded.specs.Signed.{difference, negative};
 ghost use Rattle.bounded.specs.Besides.{besides};
 ghost use Rattle.edf.specs.Demand.{row_request_lem, interference};
-ghost use Rattle.table.specs.Rows.{tasks_of, Fit};
+ghost use Rattle.table.specs.Rows.{tasks_of};
 ghost use Rattle.bounded.specs.Within.{Within};
-ghost use Rattle.table.specs.Inverse.{Inverses};
 ghost use Rattle.table.specs.Budgets.{budget_of, budgets_of};
 
+use super::fit::FitTable;
 use super::request::row_request;
-use super::rows::{count, fit_row};
 
 // The rows' V, 0 past the last row; which of them are negative, and whether none is or some is not.
 #[derive(Clone, Copy)]
@@ -21,25 +20,25 @@ pub struct Budgets {
 }
 
 // What row j can take of row i in a stretch x: nothing where it is row i itself.
-fn charge(words: &[u32], inverses: &[u64; 16], i: usize, j: usize, x: u64) -> u64
-    requires { Fit (tasks_of words.now) × Inverses (tasks_of words.now) inverses.now × (j < (tasks_of words.now).rows) × (x ≤ 1000000) }
-    ensures { Within 1000000000000 (besides (row_request_lem (tasks_of words.now) x) i j) result }
+fn charge(table: &FitTable, i: usize, j: usize, x: u64) -> u64
+    requires { (j < (tasks_of table.now.words.now).rows) × (x ≤ 1000000) }
+    ensures { Within 1000000000000 (besides (row_request_lem (tasks_of table.now.words.now) x) i j) result }
 {
     if j == i {
         return 0;
     }
-    row_request(words, inverses, j, x)
+    row_request(table, j, x)
 }
 
 // The sum over every other row j of C of j times (x divided by T of j, rounded up). Internal: its callers have tested the rows.
-pub fn interfering(words: &[u32], inverses: &[u64; 16], i: usize, x: u64) -> u64
-    requires { Fit (tasks_of words.now) × Inverses (tasks_of words.now) inverses.now × (x ≤ 1000000) }
-    ensures { Within 16000000000000 (interference (tasks_of words.now) i x) result }
+pub fn interfering(table: &FitTable, i: usize, x: u64) -> u64
+    requires { x ≤ 1000000 }
+    ensures { Within 16000000000000 (interference (tasks_of table.now.words.now) i x) result }
 {
-    let n = count(words);
+    let n = table.rows();
     let mut sum = 0;
     for j in 0..n {
-        sum += charge(words, inverses, i, j, x);
+        sum += charge(table, i, j, x);
     }
     sum
 }
@@ -54,21 +53,20 @@ fn minus(a: u64, b: u64, c: u64) -> i64
 
 // V of row i: D, less C, less what the others can take until the deadline. Internal: its callers have tested the rows, or have
 // a sound session.
-pub fn value_of(words: &[u32], inverses: &[u64; 16], i: usize) -> i64
-    requires { Fit (tasks_of words.now) × Inverses (tasks_of words.now) inverses.now × (i < (tasks_of words.now).rows) }
-    ensures { result ≡ budget_of (tasks_of words.now) i }
+pub fn value_of(table: &FitTable, i: usize) -> i64
+    requires { i < (tasks_of table.now.words.now).rows }
+    ensures { result ≡ budget_of (tasks_of table.now.words.now) i }
 {
-    let k = fit_row(words, i);
-    let sum = interfering(words, inverses, i, k.deadline);
+    let k = table.row(i);
+    let sum = interfering(table, i, k.deadline);
     minus(k.deadline, k.run, sum)
 }
 
 // V of every row. Internal: `opinion` tests the rows first, which keeps each sum from wrapping.
-pub fn all_budgets(words: &[u32], inverses: &[u64; 16]) -> Budgets
-    requires { Fit (tasks_of words.now) × Inverses (tasks_of words.now) inverses.now }
-    ensures { result ≡ budgets_of (tasks_of words.now) }
+pub fn all_budgets(table: &FitTable) -> Budgets
+    ensures { result ≡ budgets_of (tasks_of table.now.words.now) }
 {
-    let n = count(words);
+    let n = table.rows();
     let mut b = Budgets {
         values: [0i64; 16],
         brittle: [false; 16],
@@ -76,7 +74,7 @@ pub fn all_budgets(words: &[u32], inverses: &[u64; 16]) -> Budgets
         firm: false,
     };
     for i in 0..n {
-        let v = value_of(words, inverses, i);
+        let v = value_of(table, i);
         let negative = v < 0;
         b.values[i] = v;
         b.brittle[i] = negative;

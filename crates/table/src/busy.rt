@@ -1,12 +1,11 @@
 // The busy length (the synchronous busy period; docs/SPECIFICATION.md §2.4).
 ghost use Rattle.std.specs.Prelude.{◌<◌};
-ghost use Rattle.table.specs.Rows.{tasks_of, Fit};
-ghost use Rattle.table.specs.Inverse.{Inverses};
+ghost use Rattle.table.specs.Rows.{tasks_of};
 ghost use Rattle.table.specs.Busy.{Settled};
 
+use super::fit::FitTable;
 use super::leap::further;
 use super::request::requested;
-use super::rows::count;
 use super::sieve::lag_after;
 
 // The length, if there is one up to 1,000,000, and how many times the request was summed up to find it.
@@ -18,22 +17,21 @@ pub struct Busy {
 
 // The least r ≥ 1 that equals the sum over all rows of C times (r divided by T, rounded up). Internal: `opinion` tests the
 // rows first.
-pub fn busy_length(words: &[u32], inverses: &[u64; 16]) -> Busy
-    requires { Fit (tasks_of words.now) × Inverses (tasks_of words.now) inverses.now }
-    ensures { Settled (tasks_of words.now) result }
+pub fn busy_length(table: &FitTable) -> Busy
+    ensures { Settled (tasks_of table.now.words.now) result }
 {
-    let n = count(words);
+    let n = table.rows();
     let mut r: u64 = 1;
     let mut sums: u64 = 0;
     let mut lag: u64 = 0;
     let length = loop {
-        let next = requested(words, inverses, r);
+        let next = requested(table, r);
         sums += 1;
         if next == r {
             break Some(r);
         }
         lag = lag_after(n, next - r, lag);
-        let far = further(words, inverses, r, next, sums, lag);
+        let far = further(table, r, next, sums, lag);
         if 1000000 < far {
             break None;
         }

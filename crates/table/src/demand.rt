@@ -2,12 +2,12 @@
 ghost use Rattle.std.specs.Prelude.{◌≡◌, ◌*◌, ◌<◌, ◌≤◌};
 ghost use Rattle.edf.specs.Jobs.{jobs_by_lem};
 ghost use Rattle.edf.specs.Demand.{row_demand_lem, demand};
-ghost use Rattle.table.specs.Rows.{tasks_of, Fit};
+ghost use Rattle.table.specs.Rows.{tasks_of};
 ghost use Rattle.bounded.specs.Within.{Within};
-ghost use Rattle.table.specs.Inverse.{inverse_of_lem, Inverses, Tame};
+ghost use Rattle.table.specs.Inverse.{inverse_of_lem, Tame};
 
-use super::inverse::{Prepared, prepare, quotient};
-use super::rows::count;
+use super::fit::FitTable;
+use super::inverse::{Prepared, quotient};
 
 // 0 where t is below D, else (t − D) divided by T, rounded down, plus 1: in both cases (t + (T − D)) / T. Internal: its
 // callers have D and T from a row that keeps its rule.
@@ -27,24 +27,24 @@ pub fn owe(k: Prepared, t: u64) -> u64
 }
 
 // One row's part. Internal: its callers loop over rows that `opinion` tested.
-pub fn row_demand(words: &[u32], inverses: &[u64; 16], i: usize, t: u64) -> u64
-    requires { Fit (tasks_of words.now) × Inverses (tasks_of words.now) inverses.now × (i < (tasks_of words.now).rows) × (t ≤ 1000000) }
-    ensures { Within 1000000000000 (row_demand_lem (tasks_of words.now) t i) result }
+pub fn row_demand(table: &FitTable, i: usize, t: u64) -> u64
+    requires { (i < (tasks_of table.now.words.now).rows) × (t ≤ 1000000) }
+    ensures { Within 1000000000000 (row_demand_lem (tasks_of table.now.words.now) t i) result }
 {
-    let k = prepare(words, inverses, i);
+    let k = table.prepare(i);
     owe(k, t)
 }
 
 // The sum, over the rows with D ≤ t, of C times ((t − D) divided by T, rounded down, plus 1). Internal: `opinion` tests the
 // rows first.
-pub fn demand_at(words: &[u32], inverses: &[u64; 16], t: u64) -> u64
-    requires { Fit (tasks_of words.now) × Inverses (tasks_of words.now) inverses.now × (t ≤ 1000000) }
-    ensures { Within 16000000000000 (demand (tasks_of words.now) t) result }
+pub fn demand_at(table: &FitTable, t: u64) -> u64
+    requires { t ≤ 1000000 }
+    ensures { Within 16000000000000 (demand (tasks_of table.now.words.now) t) result }
 {
-    let n = count(words);
+    let n = table.rows();
     let mut sum = 0;
     for i in 0..n {
-        sum += row_demand(words, inverses, i, t);
+        sum += row_demand(table, i, t);
     }
     sum
 }

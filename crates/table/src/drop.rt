@@ -3,15 +3,15 @@
 ghost use Rattle.std.specs.Prelude.{◌≡◌, ◌+◌, ◌-◌, ◌*◌, ◌≤◌, ◌<◌, ltb};
 ghost use Rattle.edf.specs.Jobs.{jobs_by_lem};
 ghost use Rattle.edf.specs.Demand.{demand};
-ghost use Rattle.table.specs.Rows.{tasks_of, Fit};
+ghost use Rattle.table.specs.Rows.{tasks_of};
 ghost use Rattle.bounded.specs.Within.{Within};
-ghost use Rattle.table.specs.Inverse.{Inverses, Tame};
+ghost use Rattle.table.specs.Inverse.{Tame};
 ghost use Rattle.table.specs.Sieve.{Lag};
 ghost use Rattle.table.specs.Drop.{rise_by, LightHolding, holding_by, Held, drop_by, Drop, Lower};
 
 use super::demand::{jobs_by, owe};
-use super::inverse::{Prepared, prepare};
-use super::rows::count;
+use super::fit::FitTable;
+use super::inverse::Prepared;
 use super::sieve::sieve;
 
 // Rows with a deadline after some tick, counted by their shares of time, in parts of 2 to the 32nd and rounded up, and by
@@ -66,18 +66,18 @@ fn with_row(h: Holding, k: Prepared, t: u64, b: u64) -> Holding
     }
 }
 
-fn hold(words: &[u32], inverses: &[u64; 16], t: u64, b: u64) -> Holding
-    requires { Fit (tasks_of words.now) × Inverses (tasks_of words.now) inverses.now × (t ≤ 1000000) × (b ≤ 1000000) }
-    ensures { Held (tasks_of words.now) t b (tasks_of words.now).rows result }
+fn hold(table: &FitTable, t: u64, b: u64) -> Holding
+    requires { (t ≤ 1000000) × (b ≤ 1000000) }
+    ensures { Held (tasks_of table.now.words.now) t b (tasks_of table.now.words.now).rows result }
 {
-    let n = count(words);
+    let n = table.rows();
     let mut h = Holding {
         rises: 0,
         leads: 0,
         held: 0,
     };
     for i in 0..n {
-        let k = prepare(words, inverses, i);
+        let k = table.prepare(i);
         h = with_row(h, k, t, b);
     }
     h
@@ -110,22 +110,22 @@ fn reached(t: u64, v: u64, e: u64, w: u64) -> u64
 }
 
 // The bound where a row is counted by its share if it has a deadline after b.
-fn drop_at(words: &[u32], inverses: &[u64; 16], t: u64, b: u64) -> u64
-    requires { Fit (tasks_of words.now) × Inverses (tasks_of words.now) inverses.now × (t ≤ 1000000) × (b ≤ 1000000) }
-    ensures { Drop (tasks_of words.now) t result }
+fn drop_at(table: &FitTable, t: u64, b: u64) -> u64
+    requires { (t ≤ 1000000) × (b ≤ 1000000) }
+    ensures { Drop (tasks_of table.now.words.now) t result }
 {
-    let h = hold(words, inverses, t, b);
+    let h = hold(table, t, b);
     reached(t, h.rises, h.leads, h.held)
 }
 
 // The best of the first four bounds up to t, each for the rows with a deadline after the one before; u if none is lower.
-fn drops(words: &[u32], inverses: &[u64; 16], t: u64, h: u64, u: u64) -> u64
-    requires { Fit (tasks_of words.now) × Inverses (tasks_of words.now) inverses.now × (t ≤ 1000000) × (h ≤ t) × Lower (tasks_of words.now) t h u }
-    ensures { Lower (tasks_of words.now) t h result }
+fn drops(table: &FitTable, t: u64, h: u64, u: u64) -> u64
+    requires { (t ≤ 1000000) × (h ≤ t) × Lower (tasks_of table.now.words.now) t h u }
+    ensures { Lower (tasks_of table.now.words.now) t h result }
 {
     let mut at = u;
     for _ in 0..4 {
-        let b = drop_at(words, inverses, t, at);
+        let b = drop_at(table, t, at);
         if at <= b {
             return at;
         }
@@ -135,33 +135,33 @@ fn drops(words: &[u32], inverses: &[u64; 16], t: u64, h: u64, u: u64) -> u64
 }
 
 // The same by the sieve: the ticks back from t as long as the slack t − h lasts.
-fn sift(words: &[u32], inverses: &[u64; 16], t: u64, h: u64) -> u64
-    requires { Fit (tasks_of words.now) × Inverses (tasks_of words.now) inverses.now × (256 ≤ t) × (t ≤ 1000000) × (h ≤ t) × (t - h < 256) × Within 16000000000000 (demand (tasks_of words.now) t) h }
-    ensures { Lower (tasks_of words.now) t h result }
+fn sift(table: &FitTable, t: u64, h: u64) -> u64
+    requires { (256 ≤ t) × (t ≤ 1000000) × (h ≤ t) × (t - h < 256) × Within 16000000000000 (demand (tasks_of table.now.words.now) t) h }
+    ensures { Lower (tasks_of table.now.words.now) t h result }
 {
     let s = t - h;
-    t - sieve(words, inverses, t, true, s)
+    t - sieve(table, t, true, s)
 }
 
 // Where the search goes on below t, whose demand h is no more than t: below h. At the 16th sum and every 64th from there on,
 // at the bound if that is lower. Where the steps lag behind the sieve at every 16th, and else by the sieve. Internal: `opinion`
 // tests the rows first.
-pub fn lower(words: &[u32], inverses: &[u64; 16], t: u64, h: u64, sums: u64, lag: u64) -> u64
-    requires { Fit (tasks_of words.now) × Inverses (tasks_of words.now) inverses.now × (t ≤ 1000000) × (h ≤ t) × Lag (t - h) lag × Within 16000000000000 (demand (tasks_of words.now) t) h }
-    ensures { Lower (tasks_of words.now) t h result }
+pub fn lower(table: &FitTable, t: u64, h: u64, sums: u64, lag: u64) -> u64
+    requires { (t ≤ 1000000) × (h ≤ t) × Lag (t - h) lag × Within 16000000000000 (demand (tasks_of table.now.words.now) t) h }
+    ensures { Lower (tasks_of table.now.words.now) t h result }
 {
     let u = h.saturating_sub(1);
     if sums % 64 == 16 {
-        return drops(words, inverses, t, h, u);
+        return drops(table, t, h, u);
     }
     if lag < 256 {
         return u;
     }
     if sums % 16 == 0 {
-        return drops(words, inverses, t, h, u);
+        return drops(table, t, h, u);
     }
     if t < 256 {
         return u;
     }
-    sift(words, inverses, t, h)
+    sift(table, t, h)
 }

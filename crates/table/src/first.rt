@@ -1,11 +1,11 @@
 // The first tick whose demand exceeds it (docs/SPECIFICATION.md §3.1). Only a table that is refused pays for it: the ticks
 // below one that is exceeded are halved, and each half is searched from its end, so that no tick is summed up twice.
 ghost use Rattle.std.specs.Prelude.{◌≡◌, ◌≤◌};
-ghost use Rattle.table.specs.Rows.{tasks_of, Fit};
-ghost use Rattle.table.specs.Inverse.{Inverses};
+ghost use Rattle.table.specs.Rows.{tasks_of};
 ghost use Rattle.table.specs.Overload.{Exceeds};
 ghost use Rattle.table.specs.First.{First, narrow_by};
 
+use super::fit::FitTable;
 use super::overload::{Found, Outcome, search};
 
 // A tick that is exceeded, and how many times the demand was summed up to find it.
@@ -44,9 +44,9 @@ fn narrow(r: Range, middle: u64, s: Outcome) -> Range
 }
 
 // The first tick that is exceeded, where `found` is one of them. Internal: `opinion` tests the rows first.
-pub fn first(words: &[u32], inverses: &[u64; 16], found: Counted) -> Counted
-    requires { Fit (tasks_of words.now) × Inverses (tasks_of words.now) inverses.now × Exceeds (tasks_of words.now) 0 1000000 found }
-    ensures { First (tasks_of words.now) found result }
+pub fn first(table: &FitTable, found: Counted) -> Counted
+    requires { Exceeds (tasks_of table.now.words.now) 0 1000000 found }
+    ensures { First (tasks_of table.now.words.now) found result }
 {
     let mut r = Range {
         floor: 0,
@@ -55,7 +55,7 @@ pub fn first(words: &[u32], inverses: &[u64; 16], found: Counted) -> Counted
     };
     while r.floor + 1 < r.found.at {
         let middle = r.floor + (r.found.at - r.floor) / 2;
-        let s = search(words, inverses, r.floor, middle);
+        let s = search(table, r.floor, middle);
         r = narrow(r, middle, s);
     }
     Counted {

@@ -37,22 +37,8 @@ pub struct Prepared {
     pub inverse: u64,
 }
 
-// Row i. Internal: `opinion` tests the rows first.
-pub fn prepare(words: &[u32], inverses: &[u64; 16], i: usize) -> Prepared
-    requires { Fit (tasks_of words.now) × Inverses (tasks_of words.now) inverses.now × (i < (tasks_of words.now).rows) }
-    ensures { Ready (tasks_of words.now) i result }
-{
-    let k = fit_row(words, i);
-    let inverse = inverses[i];
-    Prepared {
-        run: k.run,
-        period: k.period,
-        deadline: k.deadline,
-        inverse,
-    }
-}
-
-// The same without the other rows' inverses, at the cost of a division. Internal: for callers who have a sound session.
+// Row i without the other rows' inverses, at the cost of a division (with them: `FitTable::prepare`). Internal: for callers who have
+// a sound session.
 pub fn prepare_alone(words: &[u32], i: usize) -> Prepared
     requires { Fit (tasks_of words.now) × (i < (tasks_of words.now).rows) }
     ensures { Ready (tasks_of words.now) i result }

@@ -6,6 +6,7 @@ ghost use Rattle.table.specs.Opinion.{kind_number};
 ghost use Rattle.table.specs.Kind.{FitKind, KindFor};
 
 use super::budgets::all_budgets;
+use super::fit::FitTable;
 use super::ill_sized;
 use super::inverse::inverses_of;
 use super::overload::search;
@@ -45,7 +46,11 @@ fn fit_kind(words: &[u32]) -> Option<Admission>
     ensures { FitKind (tasks_of words.now) result }
 {
     let inverses = inverses_of(words);
-    let b = all_budgets(words, &inverses);
+    let table = FitTable {
+        words,
+        inverses: &inverses,
+    };
+    let b = all_budgets(&table);
     let brittle = b.brittle;
     if b.loose {
         return Some(Admission {
@@ -53,8 +58,8 @@ fn fit_kind(words: &[u32]) -> Option<Admission>
             brittle,
         });
     }
-    let end = settling(words, &inverses)?;
-    let s = search(words, &inverses, 0, end);
+    let end = settling(&table)?;
+    let s = search(&table, 0, end);
     if s.found.is_some() {
         return None;
     }

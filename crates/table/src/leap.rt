@@ -3,15 +3,15 @@
 ghost use Rattle.std.specs.Prelude.{◌≡◌, ◌-◌, ◌*◌, ◌≤◌, ◌<◌, ltb};
 ghost use Rattle.bounded.specs.Quotient.{ceil_div};
 ghost use Rattle.edf.specs.Demand.{request};
-ghost use Rattle.table.specs.Rows.{tasks_of, Fit};
+ghost use Rattle.table.specs.Rows.{tasks_of};
 ghost use Rattle.bounded.specs.Within.{Within};
-ghost use Rattle.table.specs.Inverse.{Inverses, Tame};
+ghost use Rattle.table.specs.Inverse.{Tame};
 ghost use Rattle.table.specs.Sieve.{Lag};
 ghost use Rattle.table.specs.Leap.{share_by, LightFilling, filling_by, Filled, leap_by, Leap, Further};
 
-use super::inverse::{Prepared, prepare};
+use super::fit::FitTable;
+use super::inverse::Prepared;
 use super::request::{ask, ceiling};
-use super::rows::count;
 use super::sieve::sieve;
 
 // Rows that recur, counted by their shares of time, in parts of 2 to the 32nd and rounded down; and what the others ask for.
@@ -53,17 +53,17 @@ fn with_row(f: Filling, k: Prepared, r: u64, b: u64) -> Filling
     }
 }
 
-fn fill(words: &[u32], inverses: &[u64; 16], r: u64, b: u64) -> Filling
-    requires { Fit (tasks_of words.now) × Inverses (tasks_of words.now) inverses.now × (r ≤ 1000000) }
-    ensures { Filled (tasks_of words.now) r b (tasks_of words.now).rows result }
+fn fill(table: &FitTable, r: u64, b: u64) -> Filling
+    requires { r ≤ 1000000 }
+    ensures { Filled (tasks_of table.now.words.now) r b (tasks_of table.now.words.now).rows result }
 {
-    let n = count(words);
+    let n = table.rows();
     let mut f = Filling {
         shares: 0,
         asked: 0,
     };
     for i in 0..n {
-        let k = prepare(words, inverses, i);
+        let k = table.prepare(i);
         f = with_row(f, k, r, b);
     }
     f
@@ -87,22 +87,22 @@ fn filled(u: u64, w: u64) -> u64
 }
 
 // The bound where a row is counted by its share if it recurs below b.
-fn leap_at(words: &[u32], inverses: &[u64; 16], r: u64, b: u64) -> u64
-    requires { Fit (tasks_of words.now) × Inverses (tasks_of words.now) inverses.now × (1 ≤ r) × (r ≤ 1000000) }
-    ensures { Leap (tasks_of words.now) r result }
+fn leap_at(table: &FitTable, r: u64, b: u64) -> u64
+    requires { (1 ≤ r) × (r ≤ 1000000) }
+    ensures { Leap (tasks_of table.now.words.now) r result }
 {
-    let f = fill(words, inverses, r, b);
+    let f = fill(table, r, b);
     filled(f.shares, f.asked)
 }
 
 // The best of the first four bounds after r, each for the rows that recur below the one before; next if none is further.
-fn leaps(words: &[u32], inverses: &[u64; 16], r: u64, next: u64) -> u64
-    requires { Fit (tasks_of words.now) × Inverses (tasks_of words.now) inverses.now × (1 ≤ r) × (r ≤ 1000000) }
-    ensures { Further (tasks_of words.now) r next result }
+fn leaps(table: &FitTable, r: u64, next: u64) -> u64
+    requires { (1 ≤ r) × (r ≤ 1000000) }
+    ensures { Further (tasks_of table.now.words.now) r next result }
 {
     let mut at = next;
     for _ in 0..4 {
-        let b = leap_at(words, inverses, r, at);
+        let b = leap_at(table, r, at);
         if b <= at {
             return at;
         }
@@ -112,29 +112,29 @@ fn leaps(words: &[u32], inverses: &[u64; 16], r: u64, next: u64) -> u64
 }
 
 // The same by the sieve: the ticks from r on as long as the request stays above.
-fn sift(words: &[u32], inverses: &[u64; 16], r: u64, next: u64) -> u64
-    requires { Fit (tasks_of words.now) × Inverses (tasks_of words.now) inverses.now × (r ≤ 1000000) × (r < next) × (next - r < 256) × Within 16000000000000 (request (tasks_of words.now) r) next }
-    ensures { Further (tasks_of words.now) r next result }
+fn sift(table: &FitTable, r: u64, next: u64) -> u64
+    requires { (r ≤ 1000000) × (r < next) × (next - r < 256) × Within 16000000000000 (request (tasks_of table.now.words.now) r) next }
+    ensures { Further (tasks_of table.now.words.now) r next result }
 {
     let s = next - r - 1;
-    r + sieve(words, inverses, r, false, s)
+    r + sieve(table, r, false, s)
 }
 
 // Where the iteration goes on after r, whose request is next: there. At the 16th sum and every 64th from there on, at the bound
 // if that is further. Where the steps lag behind the sieve at every 16th, and else by the sieve. Internal: `opinion` tests the
 // rows first.
-pub fn further(words: &[u32], inverses: &[u64; 16], r: u64, next: u64, sums: u64, lag: u64) -> u64
-    requires { Fit (tasks_of words.now) × Inverses (tasks_of words.now) inverses.now × (1 ≤ r) × (r ≤ 1000000) × (r < next) × Lag (next - r) lag × Within 16000000000000 (request (tasks_of words.now) r) next }
-    ensures { Further (tasks_of words.now) r next result }
+pub fn further(table: &FitTable, r: u64, next: u64, sums: u64, lag: u64) -> u64
+    requires { (1 ≤ r) × (r ≤ 1000000) × (r < next) × Lag (next - r) lag × Within 16000000000000 (request (tasks_of table.now.words.now) r) next }
+    ensures { Further (tasks_of table.now.words.now) r next result }
 {
     if sums % 64 == 16 {
-        return leaps(words, inverses, r, next);
+        return leaps(table, r, next);
     }
     if lag < 256 {
         return next;
     }
     if sums % 16 == 0 {
-        return leaps(words, inverses, r, next);
+        return leaps(table, r, next);
     }
-    sift(words, inverses, r, next)
+    sift(table, r, next)
 }

@@ -12,6 +12,7 @@ pub mod busy;
 pub mod demand;
 mod drop;
 pub mod first;
+pub mod fit;
 pub mod inverse;
 pub mod kind;
 mod leap;
@@ -22,6 +23,7 @@ mod settle;
 mod sieve;
 
 use first::{Counted, first};
+use fit::FitTable;
 use kind::Kind;
 
 // The opinion on an admitted table: its kind, how many rows it has, and V of each, 0 past the last row.
@@ -92,9 +94,13 @@ fn judge(words: &[u32]) -> Result<Judgement, Refusal>
     requires { Fit (tasks_of words.now) }
     ensures { shown_of result ≡ judged_of (tasks_of words.now) }
 {
-    let rows = rows::count(words);
     let inverses = inverse::inverses_of(words);
-    let b = budgets::all_budgets(words, &inverses);
+    let table = FitTable {
+        words,
+        inverses: &inverses,
+    };
+    let rows = table.rows();
+    let b = budgets::all_budgets(&table);
     let budgets = b.values;
     if b.loose {
         return Ok(Judgement {
@@ -103,14 +109,14 @@ fn judge(words: &[u32]) -> Result<Judgement, Refusal>
             budgets,
         });
     }
-    let busy = busy::busy_length(words, &inverses);
-    let search = overload::search(words, &inverses, 0, compared(busy.length));
+    let busy = busy::busy_length(&table);
+    let search = overload::search(&table, 0, compared(busy.length));
     if let Some(found) = search.found {
         let last = Counted {
             found,
             sums: search.sums,
         };
-        let first = first(words, &inverses, last).found;
+        let first = first(&table, last).found;
         return Err(Refusal::Overload {
             at: first.at,
             demand: first.demand,

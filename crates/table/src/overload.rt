@@ -1,13 +1,12 @@
 // Whether the demand of some tick exceeds it (docs/SPECIFICATION.md §3.1), by jumps down from the end of a range and not by a
 // scan (the QPA test), and where the jumps are short by a sieve.
 ghost use Rattle.std.specs.Prelude.{◌≤◌};
-ghost use Rattle.table.specs.Rows.{tasks_of, Fit};
-ghost use Rattle.table.specs.Inverse.{Inverses};
+ghost use Rattle.table.specs.Rows.{tasks_of};
 ghost use Rattle.table.specs.Overload.{Searched};
 
 use super::demand::demand_at;
 use super::drop::lower;
-use super::rows::count;
+use super::fit::FitTable;
 use super::sieve::lag_after;
 
 // A tick and the demand there, which exceeds it.
@@ -25,16 +24,16 @@ pub struct Outcome {
 }
 
 // Looks at the ticks above floor, up to end, from the end down. Internal: `opinion` tests the rows first.
-pub fn search(words: &[u32], inverses: &[u64; 16], floor: u64, end: u64) -> Outcome
-    requires { Fit (tasks_of words.now) × Inverses (tasks_of words.now) inverses.now × (end ≤ 1000000) }
-    ensures { Searched (tasks_of words.now) floor end result.found result.sums }
+pub fn search(table: &FitTable, floor: u64, end: u64) -> Outcome
+    requires { end ≤ 1000000 }
+    ensures { Searched (tasks_of table.now.words.now) floor end result.found result.sums }
 {
-    let n = count(words);
+    let n = table.rows();
     let mut t = end;
     let mut sums: u64 = 0;
     let mut lag: u64 = 0;
     while floor < t {
-        let h = demand_at(words, inverses, t);
+        let h = demand_at(table, t);
         sums += 1;
         if t < h {
             let found = Found { at: t, demand: h };
@@ -44,7 +43,7 @@ pub fn search(words: &[u32], inverses: &[u64; 16], floor: u64, end: u64) -> Outc
             };
         }
         lag = lag_after(n, t - h, lag);
-        t = lower(words, inverses, t, h, sums, lag);
+        t = lower(table, t, h, sums, lag);
     }
     Outcome { found: None, sums }
 }

@@ -2,12 +2,12 @@
 ghost use Rattle.std.specs.Prelude.{◌≡◌, ◌*◌, ◌<◌, ◌≤◌};
 ghost use Rattle.bounded.specs.Quotient.{ceil_div};
 ghost use Rattle.edf.specs.Demand.{row_request_lem, request};
-ghost use Rattle.table.specs.Rows.{tasks_of, Fit};
+ghost use Rattle.table.specs.Rows.{tasks_of};
 ghost use Rattle.bounded.specs.Within.{Within};
-ghost use Rattle.table.specs.Inverse.{inverse_of_lem, Inverses, Tame};
+ghost use Rattle.table.specs.Inverse.{inverse_of_lem, Tame};
 
-use super::inverse::{Prepared, prepare, quotient};
-use super::rows::count;
+use super::fit::FitTable;
+use super::inverse::{Prepared, quotient};
 
 // a / b, rounded up. Internal: its callers have b from a row that keeps its rule.
 pub fn ceiling(a: u64, b: u64, inverse: u64) -> u64
@@ -26,23 +26,23 @@ pub fn ask(k: Prepared, x: u64) -> u64
 }
 
 // One row's part. Internal: its callers loop over rows that `opinion` tested.
-pub fn row_request(words: &[u32], inverses: &[u64; 16], i: usize, x: u64) -> u64
-    requires { Fit (tasks_of words.now) × Inverses (tasks_of words.now) inverses.now × (i < (tasks_of words.now).rows) × (x ≤ 1000000) }
-    ensures { Within 1000000000000 (row_request_lem (tasks_of words.now) x i) result }
+pub fn row_request(table: &FitTable, i: usize, x: u64) -> u64
+    requires { (i < (tasks_of table.now.words.now).rows) × (x ≤ 1000000) }
+    ensures { Within 1000000000000 (row_request_lem (tasks_of table.now.words.now) x i) result }
 {
-    let k = prepare(words, inverses, i);
+    let k = table.prepare(i);
     ask(k, x)
 }
 
 // The sum over all rows of C times (x divided by T, rounded up). Internal: `opinion` tests the rows first.
-pub fn requested(words: &[u32], inverses: &[u64; 16], x: u64) -> u64
-    requires { Fit (tasks_of words.now) × Inverses (tasks_of words.now) inverses.now × (x ≤ 1000000) }
-    ensures { Within 16000000000000 (request (tasks_of words.now) x) result }
+pub fn requested(table: &FitTable, x: u64) -> u64
+    requires { x ≤ 1000000 }
+    ensures { Within 16000000000000 (request (tasks_of table.now.words.now) x) result }
 {
-    let n = count(words);
+    let n = table.rows();
     let mut sum = 0;
     for i in 0..n {
-        sum += row_request(words, inverses, i, x);
+        sum += row_request(table, i, x);
     }
     sum
 }

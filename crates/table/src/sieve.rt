@@ -3,14 +3,14 @@
 // request(r) − r − 1: each tick takes one, and each period begun gives its row's C. So every row marks its C on its ticks, and
 // one pass over the marks follows the slack.
 ghost use Rattle.std.specs.Prelude.{◌≡◌, ◌≤◌, ◌<◌};
-ghost use Rattle.table.specs.Rows.{tasks_of, Fit};
-ghost use Rattle.table.specs.Inverse.{Inverses, Tame};
+ghost use Rattle.table.specs.Rows.{tasks_of};
+ghost use Rattle.table.specs.Inverse.{Tame};
 ghost use Rattle.table.specs.Sieve.{since_by, until_by, place_by, Markable, Marked, Bounded, OfTwo, Lasts, Lag, Sieved};
 
 use super::demand::jobs_by;
-use super::inverse::{Prepared, prepare};
+use super::fit::FitTable;
+use super::inverse::Prepared;
 use super::request::ceiling;
-use super::rows::count;
 
 // By how many ticks the steps lag behind a sieve of the same cost, 0 to 256, after one step more: a sum over n rows costs about
 // as much as n ticks of the sieve. At 256 the sieve is the faster way. Internal: no table has more rows.
@@ -88,14 +88,14 @@ fn lasts(marks: &[u32], s: u64) -> u64
 }
 
 // How many ticks from `at` on, back or forth and up to 256, the slack s lasts. Internal: `opinion` tests the rows first.
-pub fn sieve(words: &[u32], inverses: &[u64; 16], at: u64, back: bool, s: u64) -> u64
-    requires { Fit (tasks_of words.now) × Inverses (tasks_of words.now) inverses.now × (at ≤ 1000000) × (s < 256) }
-    ensures { Sieved (tasks_of words.now) at back s result }
+pub fn sieve(table: &FitTable, at: u64, back: bool, s: u64) -> u64
+    requires { (at ≤ 1000000) × (s < 256) }
+    ensures { Sieved (tasks_of table.now.words.now) at back s result }
 {
-    let n = count(words);
+    let n = table.rows();
     let mut marks = [0u32; 256];
     for i in 0..n {
-        let k = prepare(words, inverses, i);
+        let k = table.prepare(i);
         let a = place(k, at, back);
         mark(&mut marks, a as usize, k.period as usize, k.run as u32);
     }

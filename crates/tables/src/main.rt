@@ -9,6 +9,7 @@ use std::fmt::Display;
 use std::io;
 use table::Judgement;
 use table::first::{Counted, first};
+use table::fit::FitTable;
 
 fn put<D: Display + Drop>(rt: &impl Print, n: D) -> io::Result<()> {
     print!(rt; "{n}\t")
@@ -26,9 +27,13 @@ fn put_sums(rt: &impl Print, words: &[u32]) -> io::Result<()>
     requires { Fit (tasks_of words.now) }
 {
     let inverses = table::inverse::inverses_of(words);
-    let busy = table::busy::busy_length(words, &inverses);
+    let fit = FitTable {
+        words,
+        inverses: &inverses,
+    };
+    let busy = table::busy::busy_length(&fit);
     let end = table::compared(busy.length);
-    let search = table::overload::search(words, &inverses, 0, end);
+    let search = table::overload::search(&fit, 0, end);
     print!(rt; "sums\t")?;
     put(rt, busy.sums)?;
     if let Some(found) = search.found {
@@ -36,7 +41,7 @@ fn put_sums(rt: &impl Print, words: &[u32]) -> io::Result<()>
             found,
             sums: search.sums,
         };
-        put(rt, first(words, &inverses, last).sums)?;
+        put(rt, first(&fit, last).sums)?;
     } else {
         put(rt, search.sums)?;
     }

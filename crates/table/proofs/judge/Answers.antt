@@ -7,7 +7,7 @@ pub returns-then-b : goal.returns-then-b
 returns-then-b c = search (rules, judge_cases)
 
 pub first-requires : goal.first-requires
-first-requires c = (search rules, search rules, search (rules, found_exceeds))
+first-requires c = search (rules, found_exceeds)
 
 pub returns-in-Some : goal.returns-in-Some
 returns-in-Some c = search (rules, judge_cases)

@@ -19,12 +19,20 @@ slice_bounds-words-end c =
     let f = facts_of _ a.requires.0 in
     omega (arith, f.few)
 
-pub slice_bounds-value_of-end : goal.slice_bounds-value_of-end
-slice_bounds-value_of-end c =
+pub slice_bounds-table-end : goal.slice_bounds-table-end
+slice_bounds-table-end c =
     let a = c in
     let e : length a.args.s.words ≡ 48 = search rules in
     let f = facts_of _ a.requires.0 in
     sym (length-take-le _ _ (omega (arith, f.few)))
+
+pub invariant_of-table : goal.invariant_of-table
+unfolding rows_of
+invariant_of-table c =
+    let a = c in
+    let e : length a.args.s.words ≡ 48 = search rules in
+    let r = facts_rows a.args.s a.args.row (facts_of _ a.requires.0) e (search rules) in
+    record { fit = r.0; ready = a.requires.1 }
 
 pub value_of-v-requires : goal.value_of-v-requires
 unfolding rows_of
@@ -32,7 +40,7 @@ value_of-v-requires c =
     let a = c in
     let e : length a.args.s.words ≡ 48 = search rules in
     let r = facts_rows a.args.s a.args.row (facts_of _ a.requires.0) e (search rules) in
-    (r.0, a.requires.1, r.1)
+    r.1
 
 pub returns : goal.returns
 unfolding rows_of

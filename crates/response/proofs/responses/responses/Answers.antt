@@ -5,14 +5,14 @@ use Rattle.response.proofs.responses.responses.Goals as goal
 pub inverses_of-inverses-requires : goal.inverses_of-inverses-requires
 inverses_of-inverses-requires c = search (rules, responses_laws)
 
-pub count-rows-requires : goal.count-rows-requires
-count-rows-requires c = search (rules, responses_laws)
+pub rows-rows-requires : goal.rows-rows-requires
+rows-rows-requires c = search (rules, responses_laws)
 
 pub loop-i-init : goal.loop-i-init
 loop-i-init c = search (rules, responses_laws)
 
-pub fit_row-k-requires : goal.fit_row-k-requires
-fit_row-k-requires c = search (rules, responses_laws)
+pub row-k-requires : goal.row-k-requires
+row-k-requires c = search (rules, responses_laws)
 
 pub interfering-requires : goal.interfering-requires
 interfering-requires c = search (rules, responses_laws)

@@ -33,9 +33,9 @@ pub inverses_of-inverses-requires : goal.inverses_of-inverses-requires
 unfolding rows_of
 inverses_of-inverses-requires c = let a = c in facts_fit a.args.s (facts_of _ a.requires)
 
-pub all_budgets-b-requires : goal.all_budgets-b-requires
+pub invariant_of-table-clause-fit : goal.invariant_of-table-clause-fit
 unfolding rows_of
-all_budgets-b-requires c = let a = c in (facts_fit a.args.s (facts_of _ a.requires), search rules)
+invariant_of-table-clause-fit c = let a = c in facts_fit a.args.s (facts_of _ a.requires)
 
 pub returns : goal.returns
 unfolding rows_of

@@ -3,4 +3,4 @@ use Rattle.table.specs.Rows.{tasks_of}
 use Rattle.table.proofs.leap.leaps.Given as goal
 
 abbrev pub invariant-loop : goal.invariant-loop
-invariant-loop l = Further (tasks_of l.words) l.r l.next l.at
+invariant-loop l = Further (tasks_of l.table.words.now) l.r l.next l.at
