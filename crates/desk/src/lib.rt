@@ -17,7 +17,7 @@ pub const INPUT: usize = 262144;
 // A buffer of this length holds every output.
 pub const LONGEST: usize = 2885148;
 
-// How long a buffer has to be for n bytes of input.
+// How long a buffer has to be for n bytes of input. The numbers are those of this output alone.
 pub fn room_for(n: usize) -> usize
     ensures { result ≡ room_for n }
 {

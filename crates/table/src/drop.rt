@@ -119,6 +119,7 @@ fn drop_at(table: &FitTable, t: u64, b: u64) -> u64
 }
 
 // The best of the first four bounds up to t, each for the rows with a deadline after the one before; u if none is lower.
+// `leaps` goes the other way. One function for both would take the bound, the test and what each promises as parameters.
 fn drops(table: &FitTable, t: u64, h: u64, u: u64) -> u64
     requires { (t ≤ 1000000) × (h ≤ t) × Lower (tasks_of table.now.words.now) t h u }
     ensures { Lower (tasks_of table.now.words.now) t h result }

@@ -48,6 +48,7 @@ pub enum Refusal {
 }
 
 // What a reader of numbers sees of an opinion, but for V: its number, 0 where the table is admitted, and two values.
+// `session::Numbers` has the same fields and stays apart: it is the C interface.
 #[derive(Clone, Copy)]
 pub struct Numbers {
     pub number: u64,

@@ -88,6 +88,7 @@ fn lasts(marks: &[u32], s: u64) -> u64
 }
 
 // How many ticks from `at` on, back or forth and up to 256, the slack s lasts. Internal: `opinion` tests the rows first.
+// The way is a flag and no closure: what is promised speaks of both ways in one sentence (`Sieved`).
 pub fn sieve(table: &FitTable, at: u64, back: bool, s: u64) -> u64
     requires { (at ≤ 1000000) × (s < 256) }
     ensures { Sieved (tasks_of table.now.words.now) at back s result }

@@ -64,7 +64,7 @@ fn answer(rt: &impl Print, words: &[u32]) -> io::Result<()> {
     println!(rt)
 }
 
-// 16 rows, loose.
+// 16 rows, loose. `walk` has them too: each program shows the tables that it takes.
 const SIXTEEN: [u32; 48] = [
     1, 100, 100, 2, 100, 100, 3, 100, 100, 4, 100, 100, 1, 200, 150, 2, 200, 150, 3, 200, 150, 4,
     200, 150, 1, 300, 300, 1, 300, 300, 1, 300, 300, 1, 300, 300, 2, 400, 400, 2, 400, 400, 2, 400,
