@@ -1,8 +1,8 @@
 -- Differences of numbers, over the integers: which of two is the less; and a - b - c as an i64. Assumes nothing.
-use Rattle.std.specs.Prelude.{ℕ, zero, suc, ◌+◌, ◌-◌, ◌<◌, ◌^◌, Bool, true, false, ◌≡◌, refl, ℤ, pos, negsuc, ◌+ℤ◌, ◌-ℤ◌, neg_ℤ, nat_abs, T, ltb}
-use Rattle.std.proofs.Common.{true≢false, sym, ap, ◌∙◌, arith, lt-ltb, le-ltb, ltb-true, ltb-false, Fits, SFits, to_z, of_z, to_z-of_z}
+use Rattle.std.specs.Prelude.{ℕ, zero, suc, ◌+◌, ◌-◌, ◌<◌, ◌^◌, Bool, true, false, ◌≡◌, refl, ℤ, pos, negsuc, ◌+ℤ◌, ◌-ℤ◌, neg_ℤ, ltb}
+use Rattle.std.proofs.Common.{sym, ap, ◌∙◌, arith, lt-ltb, le-ltb, ltb-true, ltb-false, SFits, to_z, of_z, to_z-of_z}
 use Rattle.std.proofs.Math.IntN.{sub_ℕ, +ℤ_assoc, neg_ℤ-+ℤ, -ℤ-+ℤ_cancel}
-use Rattle.std.specs.Int.Signed.{lt_z, non_neg}
+use Rattle.std.specs.Int.Signed.{lt_z}
 use Rattle.std.specs.Int.{w64}
 use Rattle.std.proofs.lemmas.Int.{to_z_pos}
 use Rattle.bounded.specs.Tests.{both, ltb_same}
@@ -96,45 +96,3 @@ module _ (a b c : ℕ) (ha : a < 2 ^ 61) (hb : b < 2 ^ 61) (hc : c < 2 ^ 61) whe
 
   pub difference_back : to_z w64 (of_z w64 (to_z w64 (of_z w64 (to_z w64 a -ℤ to_z w64 b)) -ℤ to_z w64 c)) ≡ difference a b c
   difference_back = to_z-of_z second_fits ∙ second_is
-
--- ---- the magnitude of a negative v, by way of -1 - v, which always fits
-
--- what the machine reads back of a number's bits
-abbrev back : ℤ → ℤ
-back z = to_z w64 (of_z w64 z)
-
-module _ (v : ℤ) (f : SFits w64 v) (neg : lt_z (back v) (pos 0) ≡ true) where
-  -- v is -(n + 1), and -1 - v is n
-  below : (n : ℕ) × (v ≡ negsuc n) × (n < 2 ^ 63)
-  below = by v f (ap (λ (z : ℤ). lt_z z (pos 0)) (sym (to_z-of_z f)) ∙ neg)
-    where
-      by : (z : ℤ) → SFits w64 z → lt_z z (pos 0) ≡ true → (n : ℕ) × (z ≡ negsuc n) × (n < 2 ^ 63)
-      by (pos n) g e = absurd (omega (arith, ltb-true n 0 e))
-      by (negsuc n) g e = (n, refl, g.sfits)
-
-  flip_is : negsuc 0 -ℤ back v ≡ pos below.0
-  flip_is =
-      ap (λ (z : ℤ). negsuc 0 -ℤ z) (to_z-of_z f ∙ below.1)
-      ∙ simp (le-ltb (suc below.0) 1 (omega arith)) (let e : suc below.0 - 1 ≡ below.0 = omega arith in ap pos e)
-
-  pub flip_fits : SFits w64 (negsuc 0 -ℤ back v)
-  flip_fits = rw flip_is (record { sfits = below.2 })
-
-  flip_back : back (negsuc 0 -ℤ back v) ≡ pos below.0
-  flip_back = to_z-of_z flip_fits ∙ flip_is
-
-  pub flip_cast : T (non_neg (back (negsuc 0 -ℤ back v))) × Fits w64 (nat_abs (back (negsuc 0 -ℤ back v)))
-  flip_cast = rw flip_back (tt, record { fits = omega (arith, below.2) })
-
-  pub flip_next : Fits w64 (nat_abs (back (negsuc 0 -ℤ back v)) + 1)
-  flip_next = rw flip_back (record { fits = omega (arith, below.2) })
-
-  pub flip_magnitude : nat_abs (back (negsuc 0 -ℤ back v)) + 1 ≡ nat_abs v
-  flip_magnitude = rw flip_back (omega (arith, ap nat_abs below.1))
-
-pub keep_cast : (v : ℤ) → SFits w64 v → lt_z (back v) (pos 0) ≡ false → T (non_neg (back v)) × Fits w64 (nat_abs (back v))
-keep_cast v f e = rw (to_z-of_z f) (by v f (ap (λ (z : ℤ). lt_z z (pos 0)) (sym (to_z-of_z f)) ∙ e))
-  where
-    by : (z : ℤ) → SFits w64 z → lt_z z (pos 0) ≡ false → T (non_neg z) × Fits w64 (nat_abs z)
-    by (pos n) g h = (tt, record { fits = omega (arith, g.sfits) })
-    by (negsuc n) g h = absurd (true≢false h)

@@ -110,9 +110,9 @@ impl Prepares for &[u64; 16] {
 }
 
 // `arrive` of a sound session, by its brittle rows, of which only this one's mark is looked at. One pass over the rows, with the
-// inverses of its table's periods or with a division for each. The compiler makes a body for each way, and no function stands between
-// the body and its callers: that took a copy of the record more. Only q is indexed, so that the record is not copied once more to
-// read it.
+// inverses of its table's periods or with a division for each. The compiler makes a body for each of the two. Callers
+// call this function directly: with one function more between, a call took one copy of the record more. Only q is indexed, so that
+// the record is not copied once more to read it.
 pub fn arrive_by<P: Prepares>(s: Session, by: P, brittle: [bool; 16], row: u64) -> Outcome
     requires { (sound s ≡ true) × P.serves by (tasks s) × MarkOf s brittle row }
     ensures { result ≡ arrive_in s row }

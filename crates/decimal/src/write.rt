@@ -26,7 +26,7 @@ fn digits_in(n: u64) -> usize
 }
 
 // From the last digit to the first. It is no recursion, so that the stack that a call takes can be read off its machine code.
-// The loop ends where the digits do, which no range says more plainly.
+// No `for i in (at + 1..e).rev()`: the quotient that the body needs says as plainly where the digits end.
 #[tactic(auto, using(crate::specs::Written::filling_laws))]
 fn put_digits(out: &mut [u8], at: usize, n: u64) -> usize
     requires { at + length (decimal n) ≤ length out.old }

@@ -7,12 +7,12 @@ ghost use Rattle.transcript.specs.Transcript.{input_limit};
 use std::io;
 
 // A function of its own, so that no proof about `main` has to spell out its zeros. Each word takes four bytes of the input.
-// `stream::zeros` is of bytes; over any element it would need what `Default` gives, and be no plainer.
+// `stream::zeros` gives bytes. One over any element would need a law about the element's zero, and be no plainer.
 fn no_words() -> [u32; 16384] {
     [0; 16384]
 }
 
-// A function of its own: with `stream::zeros` in `main`, what `answer` requires was tried, and the proof did not close.
+// A function of its own. With `stream::zeros()` in `main`: tried, and the proof of what `answer` requires did not close.
 fn buffer() -> [u8; 65536]
     ensures { 65536 ≡ length result }
 {

@@ -12,7 +12,7 @@ ghost use Rattle.explain.specs.Explain.{told_of, buffer_of};
 ghost use Rattle.meter.specs.Meter.{measure_of};
 ghost use Rattle.host.specs.Explain.{telling_reply};
 ghost use Rattle.host.specs.Meter.{meter_reply, shape_of};
-ghost use Rattle.host.specs.Reply.{in_numbers, reply_of, opening_reply, answered, judgement_of};
+ghost use Rattle.host.specs.Reply.{in_numbers, reply_of, start_reply, answered, judgement_of};
 ghost use Rattle.host.specs.Sound.{sound_number_lem};
 
 use explain::{Told, Untold};
@@ -58,7 +58,7 @@ impl From<lent::Reply> for Reply {
 
 // A start uses no word.
 impl From<Result<table::Judgement, Refusal>> for Reply {
-    ghost from_gives = { λ o n. n ≡ opening_reply o };
+    ghost from_gives = { λ o n. n ≡ start_reply o };
 
     fn from(o: Result<table::Judgement, Refusal>) -> Reply {
         let v = table::shown(o);

@@ -46,8 +46,8 @@ fn differing_in(s: &[u8], p: usize, q: usize, n: usize) -> u16
     requires { (p + n ≤ length s.now) × (q + n ≤ length s.now) × (length s.now ≤ 16384) }
     ensures { Within n (apart s.now p q n) result }
 {
-    // Tried as `zip`, `filter` and `count` on two slices: the proof did not close, since `count` only says that its iterator ran
-    // to the end.
+    // Tried with `zip`, `filter` and `count`: the proof did not close. `count` gives how many items its iterator gave, and a law
+    // from there to `apart` is lacking.
     let mut sum: u16 = 0;
     for x in 0..n {
         sum += differ(s[p + x], s[q + x]);

@@ -20,8 +20,8 @@ pub struct Job {
     pub budget: u64,
 }
 
-// Numbers only, so that every content of its memory is a session: it is the C interface's, so that `kind` is no enum and `chosen`
-// with `span` no Option.
+// Numbers only, so that every content of its memory is a session. It is the C interface's: so `kind` is no enum, and `chosen` and
+// `span` are no Option.
 #[repr(C)]
 #[derive(Clone, Copy)]
 pub struct Session {

@@ -130,8 +130,6 @@ pub bad_rest : (n : ℕ) → (n ≡ 0 → ⊥) → n ≤ 48 → not (eqb (n % 3)
 unfolding bad_length
 bad_rest n h l = simp (ne_eqb n 0 h, le-ltb 48 n l)
 
-pub ruleset length_cases = (bad_none, bad_long, bad_rest)
-
 pub good_length : (n : ℕ) → bad_length n ≡ false → (1 ≤ n) × (n ≤ 48) × (n % 3 ≡ 0)
 unfolding bad_length
 good_length n e =

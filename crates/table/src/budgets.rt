@@ -1,6 +1,6 @@
 // V of each row, the inversion budget: how long later jobs may run before a waiting one (docs/SPECIFICATION.md §2.2).
-ghost use Rattle.std.specs.Prelude.{◌≡◌, not, ◌&&◌, ◌||◌, ◌+◌, ◌<◌, ◌≤◌, ◌^◌, nat_abs};
-ghost use Rattle.bounded.specs.Signed.{difference, negative};
+ghost use Rattle.std.specs.Prelude.{◌≡◌, ◌+◌, ◌<◌, ◌≤◌, ◌^◌};
+ghost use Rattle.bounded.specs.Signed.{difference};
 ghost use Rattle.bounded.specs.Besides.{besides};
 ghost use Rattle.edf.specs.Demand.{row_request_lem, interference};
 ghost use Rattle.table.specs.Rows.{tasks_of};
@@ -30,7 +30,7 @@ fn charge(table: &FitTable, i: usize, j: usize, x: u64) -> u64
     row_request(table, j, x)
 }
 
-// The sum over every other row j of C of j times (x divided by T of j, rounded up). Internal: its callers have tested the rows.
+// The sum over every other row j of C of j times (x divided by T of j, rounded up). Internal: no x is past 1,000,000.
 pub fn interfering(table: &FitTable, i: usize, x: u64) -> u64
     requires { x ≤ 1000000 }
     ensures { Within 16000000000000 (interference (tasks_of table.now.words.now) i x) result }
@@ -51,8 +51,7 @@ fn minus(a: u64, b: u64, c: u64) -> i64
     (a as i64) - (b as i64) - (c as i64)
 }
 
-// V of row i: D, less C, less what the others can take until the deadline. Internal: its callers have tested the rows, or have
-// a sound session.
+// V of row i: D, less C, less what the others can take until the deadline. Internal: its callers count the rows.
 pub fn value_of(table: &FitTable, i: usize) -> i64
     requires { i < (tasks_of table.now.words.now).rows }
     ensures { result ≡ budget_of (tasks_of table.now.words.now) i }
@@ -62,7 +61,7 @@ pub fn value_of(table: &FitTable, i: usize) -> i64
     minus(k.deadline, k.run, sum)
 }
 
-// V of every row. Internal: `opinion` tests the rows first, which keeps each sum from wrapping.
+// V of every row. The rows' rule keeps each sum from wrapping.
 pub fn all_budgets(table: &FitTable) -> Budgets
     ensures { result ≡ budgets_of (tasks_of table.now.words.now) }
 {

@@ -15,8 +15,7 @@ pub struct Busy {
     pub sums: u64,
 }
 
-// The least r ≥ 1 that equals the sum over all rows of C times (r divided by T, rounded up). Internal: `opinion` tests the
-// rows first.
+// The least r ≥ 1 that equals the sum over all rows of C times (r divided by T, rounded up).
 pub fn busy_length(table: &FitTable) -> Busy
     ensures { Settled (tasks_of table.now.words.now) result }
 {

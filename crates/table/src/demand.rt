@@ -26,7 +26,7 @@ pub fn owe(k: Prepared, t: u64) -> u64
     k.run * jobs_by(k.deadline, k.period, k.inverse, t)
 }
 
-// One row's part. Internal: its callers loop over rows that `opinion` tested.
+// One row's part. Internal: its callers loop over the rows that there are.
 pub fn row_demand(table: &FitTable, i: usize, t: u64) -> u64
     requires { (i < (tasks_of table.now.words.now).rows) × (t ≤ 1000000) }
     ensures { Within 1000000000000 (row_demand_lem (tasks_of table.now.words.now) t i) result }
@@ -35,8 +35,8 @@ pub fn row_demand(table: &FitTable, i: usize, t: u64) -> u64
     owe(k, t)
 }
 
-// The sum, over the rows with D ≤ t, of C times ((t − D) divided by T, rounded down, plus 1). Internal: `opinion` tests the
-// rows first.
+// The sum, over the rows with D ≤ t, of C times ((t − D) divided by T, rounded down, plus 1). Internal: no caller
+// looks past 1,000,000.
 pub fn demand_at(table: &FitTable, t: u64) -> u64
     requires { t ≤ 1000000 }
     ensures { Within 16000000000000 (demand (tasks_of table.now.words.now) t) result }

@@ -145,8 +145,8 @@ fn sift(table: &FitTable, t: u64, h: u64) -> u64
 }
 
 // Where the search goes on below t, whose demand h is no more than t: below h. At the 16th sum and every 64th from there on,
-// at the bound if that is lower. Where the steps lag behind the sieve at every 16th, and else by the sieve. Internal: `opinion`
-// tests the rows first.
+// at the bound if that is lower. Where the steps lag behind the sieve at every 16th, and else by the sieve. Internal: its
+// callers have h as the demand.
 pub fn lower(table: &FitTable, t: u64, h: u64, sums: u64, lag: u64) -> u64
     requires { (t ≤ 1000000) × (h ≤ t) × Lag (t - h) lag × Within 16000000000000 (demand (tasks_of table.now.words.now) t) h }
     ensures { Lower (tasks_of table.now.words.now) t h result }

@@ -43,7 +43,7 @@ fn narrow(r: Range, middle: u64, s: Outcome) -> Range
     }
 }
 
-// The first tick that is exceeded, where `found` is one of them. Internal: `opinion` tests the rows first.
+// The first tick that is exceeded, where `found` is one of them. Internal: its callers have it from a search.
 pub fn first(table: &FitTable, found: Counted) -> Counted
     requires { Exceeds (tasks_of table.now.words.now) 0 1000000 found }
     ensures { First (tasks_of table.now.words.now) found result }

@@ -1,4 +1,4 @@
-// A table whose rows keep their rule, which bounds its numbers, beside the inverses of their periods.
+// A table whose rows keep their rule, which bounds its numbers: what the budgets, the requests and the demands are taken of.
 ghost use Rattle.std.specs.Prelude.{◌≡◌, ◌<◌};
 ghost use Rattle.table.specs.Rows.{tasks_of, Fit, FitRow};
 ghost use Rattle.table.specs.Inverse.{Inverses, Ready};
@@ -6,7 +6,7 @@ ghost use Rattle.table.specs.Inverse.{Inverses, Ready};
 use super::inverse::Prepared;
 use super::rows::{Task, count, fit_row};
 
-// Internal: `opinion` tests the rows first.
+// Its numbers, and the inverses of its rows' periods. Internal: `opinion` tests the rows first.
 #[derive(Clone, Copy)]
 pub struct FitTable<'a> {
     pub words: &'a [u32],
@@ -16,12 +16,14 @@ pub struct FitTable<'a> {
 }
 
 impl FitTable<'_> {
+    // How many there are.
     pub fn rows(&self) -> usize
         ensures { result ≡ (tasks_of self.now.words.now).rows }
     {
         count(self.words)
     }
 
+    // Row i. Its callers count the rows.
     pub fn row(&self, i: usize) -> Task
         requires { i < (tasks_of self.now.words.now).rows }
         ensures { FitRow (tasks_of self.now.words.now) i result }

@@ -37,8 +37,8 @@ pub struct Prepared {
     pub inverse: u64,
 }
 
-// Row i without the other rows' inverses, at the cost of a division (with them: `FitTable::prepare`). Internal: for callers who have
-// a sound session.
+// Row i without the other rows' inverses, at the cost of a division; with them there is `FitTable::prepare`. Internal: for callers
+// who have a sound session.
 pub fn prepare_alone(words: &[u32], i: usize) -> Prepared
     requires { Fit (tasks_of words.now) × (i < (tasks_of words.now).rows) }
     ensures { Ready (tasks_of words.now) i result }

@@ -121,8 +121,8 @@ fn sift(table: &FitTable, r: u64, next: u64) -> u64
 }
 
 // Where the iteration goes on after r, whose request is next: there. At the 16th sum and every 64th from there on, at the bound
-// if that is further. Where the steps lag behind the sieve at every 16th, and else by the sieve. Internal: `opinion` tests the
-// rows first.
+// if that is further. Where the steps lag behind the sieve at every 16th, and else by the sieve. Internal: its callers have
+// `next` as the request.
 pub fn further(table: &FitTable, r: u64, next: u64, sums: u64, lag: u64) -> u64
     requires { (1 ≤ r) × (r ≤ 1000000) × (r < next) × Lag (next - r) lag × Within 16000000000000 (request (tasks_of table.now.words.now) r) next }
     ensures { Further (tasks_of table.now.words.now) r next result }

@@ -37,7 +37,7 @@ pub struct Judgement {
 // Why a table is refused (docs/SPECIFICATION.md §3; `shown_of` gives the numbers).
 #[derive(Clone, Copy)]
 pub enum Refusal {
-    // The slice's length is none that a table has.
+    // The slice's length, which no table has.
     Length(usize),
     // The first row that breaks its rule.
     Row(usize),

@@ -23,7 +23,7 @@ pub struct Outcome {
     pub sums: u64,
 }
 
-// Looks at the ticks above floor, up to end, from the end down. Internal: `opinion` tests the rows first.
+// Looks at the ticks above floor, up to end, from the end down. Internal: no caller looks past 1,000,000.
 pub fn search(table: &FitTable, floor: u64, end: u64) -> Outcome
     requires { end ≤ 1000000 }
     ensures { Searched (tasks_of table.now.words.now) floor end result.found result.sums }

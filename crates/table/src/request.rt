@@ -25,7 +25,7 @@ pub fn ask(k: Prepared, x: u64) -> u64
     k.run * ceiling(x, k.period, k.inverse)
 }
 
-// One row's part. Internal: its callers loop over rows that `opinion` tested.
+// One row's part. Internal: its callers loop over the rows that there are.
 pub fn row_request(table: &FitTable, i: usize, x: u64) -> u64
     requires { (i < (tasks_of table.now.words.now).rows) × (x ≤ 1000000) }
     ensures { Within 1000000000000 (row_request_lem (tasks_of table.now.words.now) x i) result }
@@ -34,7 +34,7 @@ pub fn row_request(table: &FitTable, i: usize, x: u64) -> u64
     ask(k, x)
 }
 
-// The sum over all rows of C times (x divided by T, rounded up). Internal: `opinion` tests the rows first.
+// The sum over all rows of C times (x divided by T, rounded up). Internal: no caller looks past 1,000,000.
 pub fn requested(table: &FitTable, x: u64) -> u64
     requires { x ≤ 1000000 }
     ensures { Within 16000000000000 (request (tasks_of table.now.words.now) x) result }

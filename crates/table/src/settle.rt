@@ -47,7 +47,6 @@ fn part_of(table: &FitTable, r: u64) -> u64
 
 // Some such stretch up to 1,000,000, if there is one. The least one is looked for up to 100,000, since the search for an
 // overload then has the less to do. Past that the last ones are found soonest: of each there are multiples.
-// Internal: its callers have tested the rows.
 pub fn settling(table: &FitTable) -> Option<u64>
     ensures { Settles (tasks_of table.now.words.now) result }
 {

@@ -87,7 +87,7 @@ fn lasts(marks: &[u32], s: u64) -> u64
     256
 }
 
-// How many ticks from `at` on, back or forth and up to 256, the slack s lasts. Internal: `opinion` tests the rows first.
+// How many ticks from `at` on, back or forth and up to 256, the slack s lasts. Internal: no caller looks past 1,000,000.
 // The way is a flag and no closure: what is promised speaks of both ways in one sentence (`Sieved`).
 pub fn sieve(table: &FitTable, at: u64, back: bool, s: u64) -> u64
     requires { (at ≤ 1000000) × (s < 256) }

@@ -57,7 +57,7 @@ fn answer(rt: &impl Print, words: &[u32]) -> io::Result<()> {
     if let Ok(j) = opinion {
         put_budgets(rt, j)?;
     }
-    // By the numbers, which are printed: of them it is shown that the rows keep their rule (`shown_fit`).
+    // Tested by the number: `shown_fit` says that the rows keep their rule where it is not 1 or 2.
     if n.number != 1 && n.number != 2 {
         put_sums(rt, words)?;
     }

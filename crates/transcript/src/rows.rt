@@ -35,7 +35,7 @@ pub fn read_rows(text: &[u8]) -> Rows
         count: 0,
         at: 0,
     };
-    // No `for`: the count is a part of what is given, and goes on with each row.
+    // No `for`: `with_row` counts the rows, and the count is a part of the result.
     while t.count < 16 {
         let at = t.at;
         if text.len() <= at {

@@ -20,7 +20,7 @@ pub struct Play {
     pub line: u64,
     // How many bytes are written.
     pub end: usize,
-    // Whether output has ended. A field, since `response` still writes from `end` then.
+    // Whether output has ended. No Option in place of `end`: `response` goes on writing from there.
     pub over: bool,
 }
 

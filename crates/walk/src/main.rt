@@ -74,7 +74,7 @@ fn counted(w: Walk, o: Outcome) -> Walk {
     let n = session::show(o.answer);
     let mut v = w;
     v.session = o.session;
-    // By the numbers, which go into the sum too.
+    // Tested by the number, which the sum needs anyway.
     if n.number != 0 {
         v.refused = v.refused.saturating_add(1);
     }

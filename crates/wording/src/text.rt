@@ -1,6 +1,6 @@
 // The text of an explanation, written into a lent buffer from a place on; each function gives the place past what it wrote. A
 // number is written with the byte after it, the first of the next phrase. Internal: whoever calls these has seen to the room.
-ghost use Rattle.std.specs.Prelude.{◌+◌, ◌≤◌, [], ◌∷◌, ◌++◌, length, take};
+ghost use Rattle.std.specs.Prelude.{◌+◌, ◌≤◌, [], ◌∷◌, ◌++◌, length};
 ghost use Rattle.decimal.specs.Buffer.{Wrote};
 ghost use Rattle.wording.specs.Explanation.{held_in};
 ghost use Rattle.wording.specs.Text.{job_text, brittle_text, chosen_text, decided_text, cause_text, text_of};

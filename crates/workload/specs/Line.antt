@@ -42,15 +42,15 @@ module _ (s : Session) where
     unfolding ready_row_lem
     found l e h = first_found (may_arrive s) i n s.count true p l e (sym (le-leb _ _ h)) refl
 
-    past : n ≤ i → n ≡ s.count → n ≡ ready_row_lem s
+    none_yet : n ≤ i → n ≡ s.count → n ≡ ready_row_lem s
     unfolding ready_row_lem
-    past l e = first_none (may_arrive s) i n s.count p l e
+    none_yet l e = first_none (may_arrive s) i n s.count p l e
 
     pub ready_found : i < n → n ≡ s.count → (job_at s i).next ≤ s.clock → Some i ≡ row_ready s
     ready_found l e h = let f = found l e h in ap Some f ∙ sym (row_some s (omega (arith, f)))
 
     pub ready_none : n ≤ i → n ≡ s.count → None ≡ row_ready s
-    ready_none l e = let f = past l e in sym (row_none s (omega (arith, f)))
+    ready_none l e = let f = none_yet l e in sym (row_none s (omega (arith, f)))
 
 -- ---- `until_next`
 

@@ -1,6 +1,6 @@
 -- The numbers of a seed (docs/WORKLOAD.md). Assumes nothing.
 use Rattle.std.specs.Prelude.{◌≡◌, ℕ, zero, suc, ◌+◌, ◌*◌, ◌%◌, ◌^◌, ◌<◌, List, [], ◌∷◌}
-use Rattle.std.proofs.Common.{lt_of_le_of_lt, le_of_lt, mul-le-mul_left, mul-lt-mul_of_pos_right, arith}
+use Rattle.std.proofs.Common.{arith}
 
 -- the number after x (a linear congruential generator)
 unfoldable pub next_of : ℕ → ℕ
@@ -18,9 +18,6 @@ unfolding next_of
 next_narrow x = omega arith
 
 -- ---- the code
-
-pub product_fits : {a b : ℕ} → a < 2 ^ 32 → b < 2 ^ 32 → a * b < 2 ^ 64
-product_fits {a} {b} ha hb = lt_of_le_of_lt (mul-le-mul_left a (le_of_lt hb)) (mul-lt-mul_of_pos_right ha (omega arith))
 
 pub next_is : (x y r : ℕ) → y ≡ 1664525 * x % 2 ^ 32 → r ≡ (y + 1013904223) % 2 ^ 32 → r ≡ next_of x
 unfolding next_of

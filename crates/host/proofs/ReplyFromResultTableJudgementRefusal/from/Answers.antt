@@ -1,6 +1,6 @@
-use Rattle.host.specs.Reply.{opening_reply_is}
+use Rattle.host.specs.Reply.{start_reply_lem}
 use borrow.Author.Rules.{rules}
 use Rattle.host.proofs.ReplyFromResultTableJudgementRefusal.from.Goals as goal
 
 pub returns : goal.returns
-returns c = search (rules, opening_reply_is)
+returns c = search (rules, start_reply_lem)
