@@ -1,5 +1,5 @@
 -- The whole of what `contest` writes (docs/SPECIFICATION.md §13.4). Definitions only. Assumes nothing.
-use Rattle.std.specs.Prelude.{ℕ, suc, ◌+◌, Bool, true, false, cond, List, [], ◌∷◌, ◌++◌, ltb, eqb, length, take, Result, Ok, Err}
+use Rattle.std.specs.Prelude.{ℕ, suc, ◌+◌, Bool, true, false, cond, List, [], ◌∷◌, ◌++◌, ltb, leb, eqb, length, take, Option, Some, None, Result, Ok, Err}
 use Rattle.bounded.specs.Least.{least_from}
 use Rattle.decimal.specs.Joined.{join_to}
 use Rattle.edf.specs.Demand.{TaskSet, demand}
@@ -25,6 +25,10 @@ input_limit = 1024
 -- the least t up to n with a demand above it; n + 1 where there is none
 unfoldable pub overload_by : TaskSet → ℕ → ℕ
 overload_by τ n = least_from (λ t. ltb t (demand τ t)) 0 (n + 1)
+
+-- the same t, if there is one
+unfoldable pub overload_within : TaskSet → ℕ → Option ℕ
+overload_within τ n = cond (leb (overload_by τ n) n) (Some (overload_by τ n)) None
 
 -- the release of row i at tick c, if the line to t has it: letter `A`, number 0, row and deadline
 unfoldable pub release_text : TaskSet → ℕ → ℕ → ℕ → List ℕ

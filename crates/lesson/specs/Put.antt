@@ -1,9 +1,10 @@
 -- The code that writes an answer. Assumes nothing.
-use Rattle.std.specs.Prelude.{ℕ, ◌+◌, ◌*◌, ◌%◌, ◌≤◌, ◌<◌, ◌≡◌, Bool, false, List, ltb, length, Result, Ok, Err}
+use Rattle.std.specs.Prelude.{ℕ, ◌+◌, ◌*◌, ◌%◌, ◌≤◌, ◌<◌, ◌≡◌, Bool, false, List, ltb, length, Option, Some, None, Result, Ok, Err}
 use Rattle.std.proofs.Math.Path.{refl, subst}
 use Rattle.std.proofs.Common.{sym, ap, ◌∙◌, append-nil}
 use Rattle.std.proofs.Math.Bool.{and-false}
 use Rattle.std.proofs.Math.Logic.{dite}
+use Rattle.std.proofs.lemmas.Option.{none-some, same_Some}
 use native.Mathlib.Omega.{arith}
 use Rattle.std.proofs.Math.Decide.{dec_lt}
 use borrow.Author.Tests.{lt-ltb, le-ltb, ltb-true, ltb-false, le-leb, lt-leb, eq-eqb, ne_eqb}
@@ -21,24 +22,38 @@ use Rattle.gametree.specs.declared.Finding.TheVariants.{Forced, Held}
 use Rattle.gametree.specs.declared.Refusal.{Refusal}
 use Rattle.gametree.specs.Entry.{search_of, numbers_of}
 use Rattle.gametree.specs.Theorems.{search_exact, forced_playing}
-use Rattle.lesson.specs.Lesson.{overload_by, release_text, tick_text, releases_text, shown_text, finding_text, answer_text}
+use Rattle.lesson.specs.Lesson.{overload_by, overload_within, release_text, tick_text, releases_text, shown_text, finding_text, answer_text}
 
 -- ---- `first_over`
 
 abbrev pub over : TaskSet → ℕ → Bool
 over τ t = ltb t (demand τ t)
 
+within_some : (τ : TaskSet) (n : ℕ) → overload_by τ n ≤ n → overload_within τ n ≡ Some (overload_by τ n)
+unfolding overload_within
+within_some τ n l = simp (le-leb (overload_by τ n) n l)
+
+within_none : (τ : TaskSet) (n : ℕ) → n < overload_by τ n → overload_within τ n ≡ None
+unfolding overload_within
+within_none τ n l = simp (lt-leb (overload_by τ n) n l)
+
 module _ (τ : TaskSet) (t r : ℕ) (h : Passed (over τ) t) (e : r ≡ demand τ t) where
   pub over_next : r ≤ t → Passed (over τ) (t + 1)
   over_next l = passed_next (over τ) t (over τ t) h refl (le-ltb t (demand τ t) (omega arith))
 
-  pub over_found : (n end : ℕ) → t < end → end ≡ n + 1 → t < r → t ≡ overload_by τ n
+  found : (n : ℕ) → t < n + 1 → t < r → t ≡ overload_by τ n
   unfolding overload_by
-  over_found n end k q l = first_found (over τ) t end (n + 1) (over τ t) h k q refl (lt-ltb t (demand τ t) (omega arith))
+  found n k l = first_found (over τ) t (n + 1) (n + 1) (over τ t) h k refl refl (lt-ltb t (demand τ t) (omega arith))
 
-pub over_none : (τ : TaskSet) (t n end : ℕ) → Passed (over τ) t → end ≤ t → end ≡ n + 1 → end ≡ overload_by τ n
+  pub over_found : (n end : ℕ) → t < end → end ≡ n + 1 → t < r → Some t ≡ overload_within τ n
+  over_found n end k q l = let f = found n (omega arith) l in ap Some f ∙ sym (within_some τ n (omega (arith, f)))
+
+none_yet : (τ : TaskSet) (t n : ℕ) → Passed (over τ) t → n + 1 ≤ t → n + 1 ≡ overload_by τ n
 unfolding overload_by
-over_none τ t n end h k q = first_none (over τ) t end (n + 1) h k q
+none_yet τ t n h k = first_none (over τ) t (n + 1) (n + 1) h k refl
+
+pub over_none : (τ : TaskSet) (t n end : ℕ) → Passed (over τ) t → end ≤ t → end ≡ n + 1 → None ≡ overload_within τ n
+over_none τ t n end h k q = let f = none_yet τ t n h (omega arith) in sym (within_none τ n (omega (arith, f)))
 
 pub ruleset over_laws = (passed_start, over_next, over_found, over_none)
 
@@ -120,8 +135,18 @@ module _ (l : List ℕ) (n : ℕ) (f : Result Finding Refusal) (e : f ≡ search
       )))
       (λ h. omega arith)
 
-  pub forced_twelve : (t : ℕ) → t ≡ overload_by (tasks_of l) n → t ≤ 12
-  forced_twelve t q = omega (arith, forced_within t q, forced_short)
+  forced_some : overload_within (tasks_of l) n ≡ Some (overload_by (tasks_of l) n)
+  forced_some = within_some (tasks_of l) n (forced_within (overload_by (tasks_of l) n) refl)
+
+  module _ (r : Option ℕ) (q : r ≡ overload_within (tasks_of l) n) where
+    pub forced_first : (t : ℕ) → r ≡ Some t → t ≡ overload_by (tasks_of l) n
+    forced_first t i = same_Some t (overload_by (tasks_of l) n) (sym i ∙ q ∙ forced_some)
+
+    pub forced_twelve : (t : ℕ) → r ≡ Some t → t ≤ 12
+    forced_twelve t i = omega (arith, forced_within t (forced_first t i), forced_short)
+
+    pub forced_found : r ≡ None → ⊥
+    forced_found i = none-some (overload_by (tasks_of l) n) (sym i ∙ q ∙ forced_some)
 
 -- its demand exceeds it
 pub forced_over : (l : List ℕ) (n : ℕ) → search_of l n ≡ Ok Forced → overload_by (tasks_of l) n < demand (tasks_of l) (overload_by (tasks_of l) n)
@@ -140,12 +165,18 @@ module _ (l : List ℕ) (n : ℕ) (f : Result Finding Refusal) (e : f ≡ search
   unfolding answer_text
   whole x k g q y = subst (λ (z : Result Finding Refusal). Wrote 3182 (finding_text l n z) b g at q) (sym k ∙ e) y
 
-  pub answer_forced : (x : Finding) (t : ℕ) (g : List ℕ) (q : ℕ) → f ≡ Ok x → x ≡ Forced → t ≡ overload_by (tasks_of l) n → Wrote 3096 (releases_text (tasks_of l) t) d g p q
-      → Wrote 3182 (answer_text l n) b g at q
-  answer_forced u t g q i j o x =
-      let k : f ≡ Ok Forced = i ∙ ap Ok j in
-      let y = head (Ok Forced) k in
-      whole (Ok Forced) k g q (wrote_more 86 3096 _ _ b d g at p q (omega (arith, y.short)) y (rw o at x))
+  module _ (x : Finding) (i : f ≡ Ok x) (j : x ≡ Forced) (r : Option ℕ) (o : r ≡ overload_within (tasks_of l) n) where
+    forced : f ≡ Ok Forced
+    forced = i ∙ ap Ok j
+
+    pub answer_forced : (t : ℕ) (g : List ℕ) (q : ℕ) → r ≡ Some t → Wrote 3096 (releases_text (tasks_of l) t) d g p q → Wrote 3182 (answer_text l n) b g at q
+    answer_forced t g q u y =
+        let z = head (Ok Forced) forced in
+        whole (Ok Forced) forced g q (wrote_more 86 3096 _ _ b d g at p q (omega (arith, z.short)) z (rw (forced_first l n f e forced r o t u) at y))
+
+    -- nothing is found: it does not happen
+    pub answer_nothing : r ≡ None → Wrote 3182 (answer_text l n) b d at p
+    answer_nothing u = absurd (forced_found l n f e forced r o u)
 
   pub answer_held : (x : Finding) → f ≡ Ok x → x ≡ Held → Wrote 3182 (answer_text l n) b d at p
   answer_held x i j =
@@ -155,4 +186,4 @@ module _ (l : List ℕ) (n : ℕ) (f : Result Finding Refusal) (e : f ≡ search
   pub answer_refused : (x : Refusal) → f ≡ Err x → Wrote 3182 (answer_text l n) b d at p
   answer_refused x k = whole (Err x) k d p (simp append-nil (wrote_within 86 3182 _ b d at p (omega arith) (head (Err x) k)))
 
-pub ruleset answer_cases = (forced_fit, forced_few, forced_short, forced_twelve, answer_forced, answer_held, answer_refused)
+pub ruleset answer_cases = (forced_fit, forced_few, forced_short, forced_twelve, answer_forced, answer_nothing, answer_held, answer_refused)

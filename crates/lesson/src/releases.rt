@@ -2,7 +2,7 @@
 ghost use Rattle.std.specs.Prelude.{◌≡◌, ◌+◌, ◌≤◌, ◌<◌, length};
 ghost use Rattle.decimal.specs.Buffer.{Wrote};
 ghost use Rattle.table.specs.Rows.{tasks_of, Fit};
-ghost use Rattle.lesson.specs.Lesson.{overload_by, release_text, tick_text, releases_text, answer_text};
+ghost use Rattle.lesson.specs.Lesson.{overload_within, release_text, tick_text, releases_text, answer_text};
 
 use gametree::Finding;
 use lines::write::put_line;
@@ -11,10 +11,10 @@ use table::fit::FitTable;
 use table::inverse::inverses_of;
 use table::rows::{count, fit_row};
 
-// The least t up to n with a demand above it; n + 1 where there is none.
-fn first_over(words: &[u32], n: u64) -> u64
+// The least t up to n with a demand above it.
+fn first_over(words: &[u32], n: u64) -> Option<u64>
     requires { Fit (tasks_of words.now) × (n ≤ 12) }
-    ensures { result ≡ overload_by (tasks_of words.now) n }
+    ensures { result ≡ overload_within (tasks_of words.now) n }
 {
     let inverses = inverses_of(words);
     let table = FitTable {
@@ -24,10 +24,10 @@ fn first_over(words: &[u32], n: u64) -> u64
     let end = n + 1;
     for t in 0..end {
         if t < demand_at(&table, t) {
-            return t;
+            return Some(t);
         }
     }
-    end
+    None
 }
 
 // The release of row i at tick c, if the line to t has it.
@@ -81,7 +81,11 @@ pub fn put_answer(words: &[u32], n: u64, out: &mut [u8], at: usize) -> usize
     let e = put_line(out, at, 0, b'N', v.number, v.first, v.second);
     match f {
         Ok(finding) => match finding {
-            Finding::Forced => put_releases(words, first_over(words, n), out, e),
+            Finding::Forced => match first_over(words, n) {
+                Some(t) => put_releases(words, t, out, e),
+                // not met: where the search says `Forced`, there is one
+                None => e,
+            },
             Finding::Held => e,
         },
         Err(_) => e,

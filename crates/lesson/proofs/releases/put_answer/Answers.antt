@@ -8,8 +8,11 @@ first_over-requires c = search (rules, answer_cases)
 pub put_releases-requires : goal.put_releases-requires
 put_releases-requires c = search (rules, answer_cases)
 
-pub returns-in-Forced : goal.returns-in-Forced
-returns-in-Forced c = search (rules, answer_cases)
+pub returns-in-Some : goal.returns-in-Some
+returns-in-Some c = search (rules, answer_cases)
+
+pub returns-in-None : goal.returns-in-None
+returns-in-None c = search (rules, answer_cases)
 
 pub returns-in-Held : goal.returns-in-Held
 returns-in-Held c = search (rules, answer_cases)
