@@ -11,10 +11,16 @@ use session::Session;
 use table::rows::{count, fit_row};
 use transcript::step::Play;
 
+// The admitted table, and the response bound of each row.
+#[derive(Clone, Copy)]
+pub struct Analysis<'a> {
+    pub words: &'a [u32],
+    pub spans: &'a [u64; 16],
+}
+
 // A job of row i, due at `due`, with these inversion ticks.
 pub fn put_job(
-    table: &[u32],
-    spans: &[u64; 16],
+    analysis: &Analysis,
     letter: u8,
     clock: u64,
     i: usize,
@@ -23,12 +29,12 @@ pub fn put_job(
     out: &mut [u8],
     at: usize,
 ) -> usize
-    requires { LegibleRow (tasks_of table.now) spans.now i due inversions × (at + 128 ≤ length out.old) }
-    ensures { Wrote 128 (job_text letter (line_by_lem (tasks_of table.now) clock i (due - (tasks_of table.now).D i) inversions)) out.old out.new at result }
+    requires { LegibleRow (tasks_of analysis.now.words.now) analysis.now.spans.now i due inversions × (at + 128 ≤ length out.old) }
+    ensures { Wrote 128 (job_text letter (line_by_lem (tasks_of analysis.now.words.now) clock i (due - (tasks_of analysis.now.words.now).D i) inversions)) out.old out.new at result }
 {
-    let k = fit_row(table, i);
+    let k = fit_row(analysis.words, i);
     let arrival = due - k.deadline;
-    let bound = arrival + spans[i] + inversions;
+    let bound = arrival + analysis.spans[i] + inversions;
     let e = put_head(out, at, clock, letter, 0, i as u64);
     let f = put_number(out, e, arrival, b'\t');
     let g = put_number(out, f, bound, b'\t');
@@ -37,40 +43,38 @@ pub fn put_job(
 
 // The job of row i, if it still waits.
 fn put_waiting(
-    table: &[u32],
-    spans: &[u64; 16],
+    analysis: &Analysis,
     s: Session,
     counts: [u64; 16],
     i: usize,
     out: &mut [u8],
     at: usize,
 ) -> usize
-    requires { Legible (tasks_of table.now) spans.now s counts × (i < (tasks_of table.now).rows) × (at + 128 ≤ length out.old) }
-    ensures { Wrote 128 (pending_text (tasks_of table.now) s counts i) out.old out.new at result }
+    requires { Legible (tasks_of analysis.now.words.now) analysis.now.spans.now s counts × (i < (tasks_of analysis.now.words.now).rows) × (at + 128 ≤ length out.old) }
+    ensures { Wrote 128 (pending_text (tasks_of analysis.now.words.now) s counts i) out.old out.new at result }
 {
     let j = s.jobs[i];
     if j.left == 0 {
         return at;
     }
-    put_job(table, spans, b'P', s.clock, i, j.due, counts[i], out, at)
+    put_job(analysis, b'P', s.clock, i, j.due, counts[i], out, at)
 }
 
 // All jobs that still wait.
 pub fn put_pending(
-    table: &[u32],
-    spans: &[u64; 16],
+    analysis: &Analysis,
     s: Session,
     p: Play,
     counts: [u64; 16],
     out: &mut [u8],
 ) -> usize
-    requires { Finishing (tasks_of table.now) spans.now s p counts out.old }
-    ensures { Wrote 2048 (pendings_text (tasks_of table.now) s counts) out.old out.new p.end result }
+    requires { Finishing (tasks_of analysis.now.words.now) analysis.now.spans.now s p counts out.old }
+    ensures { Wrote 2048 (pendings_text (tasks_of analysis.now.words.now) s counts) out.old out.new p.end result }
 {
-    let rows = count(table);
+    let rows = count(analysis.words);
     let mut e = p.end;
     for i in 0..rows {
-        e = put_waiting(table, spans, s, counts, i, out, e);
+        e = put_waiting(analysis, s, counts, i, out, e);
     }
     e
 }

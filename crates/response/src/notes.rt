@@ -6,7 +6,7 @@ ghost use Rattle.response.specs.Watch.{aged};
 ghost use Rattle.response.specs.Put.{Legible};
 ghost use Rattle.response.specs.Note.{Ageing, Tallying, tally_by, ends_by, end_text, Ending, Calling, NoteDid};
 
-use crate::job::put_job;
+use crate::job::{Analysis, put_job};
 use calls::advance::place_of;
 use lines::read::Call;
 use session::Session;
@@ -76,8 +76,7 @@ fn ends(c: Call, number: u64, second: u64) -> bool
 
 // The line of the job that a call on s ends, if it does; the clock is the one after the call.
 fn put_end(
-    table: &[u32],
-    spans: &[u64; 16],
+    analysis: &Analysis,
     s: Session,
     over: bool,
     clock: u64,
@@ -85,21 +84,20 @@ fn put_end(
     out: &mut [u8],
     at: usize,
 ) -> usize
-    requires { Legible (tasks_of table.now) spans.now s counts × Ending (tasks_of table.now) s over × (at + 128 ≤ length out.old) }
-    ensures { Wrote 128 (end_text (tasks_of table.now) s over clock counts) out.old out.new at result }
+    requires { Legible (tasks_of analysis.now.words.now) analysis.now.spans.now s counts × Ending (tasks_of analysis.now.words.now) s over × (at + 128 ≤ length out.old) }
+    ensures { Wrote 128 (end_text (tasks_of analysis.now.words.now) s over clock counts) out.old out.new at result }
 {
     if over {
         let i = s.chosen as usize;
         let j = s.jobs[i];
-        return put_job(table, spans, b'E', clock, i, j.due, counts[i], out, at);
+        return put_job(analysis, b'E', clock, i, j.due, counts[i], out, at);
     }
     at
 }
 
 // One call. The session is sound, and there is room for a line.
 pub fn note(
-    table: &[u32],
-    spans: &[u64; 16],
+    analysis: &Analysis,
     s: Session,
     p: Play,
     counts: [u64; 16],
@@ -107,15 +105,15 @@ pub fn note(
     words: &[u32],
     out: &mut [u8],
 ) -> Notes
-    requires { Calling (tasks_of table.now) spans.now s counts c words.now p out.old }
-    ensures { NoteDid (tasks_of table.now) s p counts c words.now result.session result.play result.counts out.old out.new }
+    requires { Calling (tasks_of analysis.now.words.now) analysis.now.spans.now s counts c words.now p out.old }
+    ensures { NoteDid (tasks_of analysis.now.words.now) s p counts c words.now result.session result.play result.counts out.old out.new }
 {
     let o = call(s, c, words);
     let answer = o.answer;
     let session = o.session;
     let n = session::show(answer);
     let over = ends(c, n.number, n.second);
-    let end = put_end(table, spans, s, over, session.clock, counts, out, p.end);
+    let end = put_end(analysis, s, over, session.clock, counts, out, p.end);
     Notes {
         session,
         play: passed(p, o.used, end),
