@@ -1,5 +1,5 @@
 // V of each row, the inversion budget: how long later jobs may run before a waiting one (docs/SPECIFICATION.md §2.2).
-ghost use Rattle.std.specs.Prelude.{◌≡◌, not, ◌&&◌, ◌||◌, ◌+◌, ◌<◌, ◌≤◌, ◌^◌, nat_abs};
+ghost use Rattle.std.specs.Prelude.{◌≡◌, not, ◌&&◌, ◌||◌, ◌+◌, ◌<◌, ◌≤◌, ◌^◌};
 ghost use Rattle.bounded.specs.Signed.{difference, negative};
 ghost use Rattle.bounded.specs.Besides.{besides};
 ghost use Rattle.edf.specs.Demand.{row_request_lem, interference};
