@@ -28,7 +28,8 @@ pub fn inverses_of(words: &[u32]) -> [u64; 16]
     inverses
 }
 
-// A row with its period's inverse.
+// A row with its period's inverse. What bounds its numbers (`Tame`) stays a clause: a ghost field is no plainer, since specs/Inverse
+// names this type and would have to be two files, and so would this one.
 #[derive(Clone, Copy)]
 pub struct Prepared {
     pub run: u64,

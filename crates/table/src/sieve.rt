@@ -50,8 +50,11 @@ fn mark(marks: &mut [u32], a: usize, stride: usize, c: u32)
     requires { Markable marks.old stride c }
     ensures { Marked marks.old marks.new a stride c }
 {
-    for x in (a..256).step_by(stride) {
+    // With `(a..256).step_by(stride)`: tried, and the searches of the program `tables` take 12 to 18 % more instructions.
+    let mut x = a;
+    while x < 256 {
         marks[x] += c;
+        x += stride;
     }
 }
 

@@ -1,6 +1,5 @@
-use Rattle.std.proofs.Common.{refl, ◌+◌}
 use borrow.Author.Rules.{rules}
-use Rattle.table.specs.Sieve.{marking_laws, marking_next, marking_done}
+use Rattle.table.specs.Sieve.{marking_laws}
 use Rattle.table.proofs.sieve.mark.Goals as goal
 
 pub loop-x-init : goal.loop-x-init
@@ -18,6 +17,9 @@ overflow_add-marks c = search (rules, marking_laws)
 pub bounds-marks-x-in-loop-x : goal.bounds-marks-x-in-loop-x
 bounds-marks-x-in-loop-x c = search (rules, marking_laws)
 
+pub overflow_add-x : goal.overflow_add-x
+overflow_add-x c = search (rules, marking_laws)
+
 pub loop-x-smaller : goal.loop-x-smaller
 loop-x-smaller c = search (rules, marking_laws)
 
@@ -29,8 +31,3 @@ shape_of-marks c = search (rules, marking_laws)
 
 pub returns : goal.returns
 returns c = search (rules, marking_laws)
-
-pub returns-2 : goal.returns-2
-returns-2 c =
-    marking_done _ _ _ _ c.requires _ (c.loop-x.x + c.args.stride)
-    (marking_next _ _ _ _ c.requires _ _ c.loop-x.invariant c.loop-x-test.true _ refl) (search rules)
