@@ -38,16 +38,15 @@ module _ (s : Session) where
     pub ready_next : s.clock < (job_at s i).next → Passed (may_arrive s) (i + 1)
     ready_next h = passed_next (may_arrive s) i false p (sym (lt-leb _ _ h)) refl
 
-    found : i < n → n ≡ s.count → (job_at s i).next ≤ s.clock → i ≡ ready_row_lem s
-    unfolding ready_row_lem
-    found l e h = first_found (may_arrive s) i n s.count true p l e (sym (le-leb _ _ h)) refl
-
     none_yet : n ≤ i → n ≡ s.count → n ≡ ready_row_lem s
     unfolding ready_row_lem
     none_yet l e = first_none (may_arrive s) i n s.count p l e
 
     pub ready_found : i < n → n ≡ s.count → (job_at s i).next ≤ s.clock → Some i ≡ row_ready s
-    ready_found l e h = let f = found l e h in ap Some f ∙ sym (row_some s (omega (arith, f)))
+    unfolding ready_row_lem
+    ready_found l e h =
+        let f : i ≡ ready_row_lem s = first_found (may_arrive s) i n s.count true p l e (sym (le-leb _ _ h)) refl in
+        ap Some f ∙ sym (row_some s (omega (arith, f)))
 
     pub ready_none : n ≤ i → n ≡ s.count → None ≡ row_ready s
     ready_none l e = let f = none_yet l e in sym (row_none s (omega (arith, f)))
