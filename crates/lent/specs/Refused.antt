@@ -2,7 +2,7 @@
 use Rattle.std.specs.Prelude.{◌≡◌, refl, ℕ, Result, List}
 use Rattle.std.proofs.Common.{ap, ◌∙◌}
 use Rattle.bounded.specs.Tests.{both}
-use Rattle.table.specs.Verdict.{Opinion, opinion_of}
+use Rattle.table.specs.Verdict.{opinion_of}
 use Rattle.table.specs.declared.Judgement.{Judgement}
 use Rattle.table.specs.declared.Refusal.{Refusal}
 use Rattle.table.specs.Opinion as opinion
@@ -32,6 +32,6 @@ refused_same s s' c r e f ne =
     f ∙ both (sound s) (λ t. effect_same (effect_of s t c) (λ z. ne (ap (λ (x : Reply). (shown x.answer).number) e ∙ z)))
     (λ u. ap (λ (o : Outcome). o.session) (unsound_refused s c u))
 
-pub start_refused_same : (s s' : Session) (l : List ℕ) (r : Result Judgement Refusal) → opinion.shown_of r ≡ opinion_of l → s' ≡ start_of s l
+pub start_refused_same : (s s' : Session) (l : List ℕ) (r : Result Judgement Refusal) → opinion.Says r (opinion_of l) → s' ≡ start_of s l
     → ((opinion.shown_of r).number ≡ 0 → ⊥) → s' ≡ s
-start_refused_same s s' l r h f ne = f ∙ start_same s l (λ z. ne (ap (λ (o : Opinion). o.number) h ∙ z))
+start_refused_same s s' l r h f ne = f ∙ start_same s l (λ z. ne (h.number ∙ z))

@@ -12,6 +12,7 @@ ghost use Rattle.explain.specs.Explain.{told_of, buffer_of};
 ghost use Rattle.lent.specs.Reply.{reply_of};
 
 use explain::{Told, Untold};
+use session::start::start_by;
 use session::{Answer, Arrival, Outcome, Session};
 use table::{Judgement, Refusal};
 
@@ -64,13 +65,14 @@ pub fn finish(s: &mut Session) -> Reply
     hand_back(calls::finish::finish(*s), s)
 }
 
-// In place of whatever the record held, which a refused table leaves as it was.
+// In place of whatever the record held, which a refused table leaves as it was. The opinion and the session come one by one: in the
+// record that `start_on` gives, the session is copied once more (docs/PERFORMANCE.md).
 pub fn start(s: &mut Session, words: &[u32]) -> Result<Judgement, Refusal>
     ensures { (shown_of result ≡ opinion_of words.now) × (s.new ≡ start_of s.old words.now) }
 {
-    let o = session::start::start_on(*s, words);
-    *s = o.session;
-    o.opinion
+    let opinion = table::opinion(words);
+    *s = start_by(*s, words, opinion);
+    opinion
 }
 
 // The text of what choose answers on these words, and why, in a buffer of the host. The record is only read.

@@ -73,7 +73,7 @@ module _ (l : List ℕ) (n : Found ℕ) (r : Took (number_at (drop 14 l)) l n.va
     compared : b ≡ same (text_of (cut_all (explanation_in l))) l
     compared = s ∙ rw (all_read, held_parts (cut_all (explanation_in l)))
 
-    read_same : b ≡ true → Some p ≡ reading_of l
+    pub read_same : b ≡ true → Some p ≡ reading_of l
     unfolding reading_of
     read_same y =
         let e = explanation_in l in
@@ -83,7 +83,7 @@ module _ (l : List ℕ) (n : Found ℕ) (r : Took (number_at (drop 14 l)) l n.va
         let i : is_text l ≡ true = sym (ap is_text t) ∙ text_is (cut_all e) f in
         simp i (ap Some (all_read ∙ ap parts_of (sym k)))
 
-    read_other : b ≡ false → None ≡ reading_of l
+    pub read_other : b ≡ false → None ≡ reading_of l
     read_other d =
         both (is_text l)
         (λ y.

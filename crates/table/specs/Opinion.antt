@@ -91,6 +91,25 @@ opinion_in_lem (Err Unsettled) = refl
 pub shown_one : (v w : Result Judgement Refusal) → shown_of v ≡ shown_of w → v ≡ w
 shown_one v w e = sym (opinion_in_lem v) ∙ ap opinion_in e ∙ opinion_in_lem w
 
+-- an opinion but for its budgets
+abbrev pub verdict_of : Result Judgement Refusal → Result Judgement Refusal
+verdict_of (Ok j) = Ok (record { kind = j.kind; rows = j.rows; budgets = replicate 16 (pos 0) })
+verdict_of (Err r) = Err r
+
+verdict_in_lem : (v : Result Judgement Refusal)
+    → opinion_in (record { number = (shown_of v).number; first = (shown_of v).first; second = (shown_of v).second; budgets = replicate 16 (pos 0) })
+    ≡ verdict_of v
+verdict_in_lem (Ok j) = opinion_in_lem (Ok (record { kind = j.kind; rows = j.rows; budgets = replicate 16 (pos 0) }))
+verdict_in_lem (Err (Length n)) = opinion_in_lem (Err (Length n))
+verdict_in_lem (Err (Row i)) = opinion_in_lem (Err (Row i))
+verdict_in_lem (Err (Overload t d)) = opinion_in_lem (Err (Overload t d))
+verdict_in_lem (Err Unsettled) = opinion_in_lem (Err Unsettled)
+
+-- so two that say the same are the same but for these
+pub says_one : (v w : Result Judgement Refusal) (o : Opinion) → Says v o → Says w o → verdict_of v ≡ verdict_of w
+says_one v w o h g =
+    sym (verdict_in_lem v) ∙ rw (h.number, h.first, h.second, ← g.number, ← g.first, ← g.second) (verdict_in_lem w)
+
 -- a refusal has a number above 0
 pub refusal_some : (r : Refusal) → (shown_of (Err r)).number ≡ 0 → ⊥
 refusal_some (Length n) z = omega arith

@@ -51,7 +51,7 @@ module _ (seed start : ℕ) (first : List ℕ) (s : Session) (p : Progress) (wor
           let k : left ≡ suc (left - 1) = omega arith in
           ap (λ (m : ℕ). input_text (lines_from m x)) k ∙ rw (is, onward_is)
 
-      play_next : (rest : ℕ) → rest ≡ left - 1 → Playing seed start first t r words' out' end' rest
+      pub play_next : (rest : ℕ) → rest ≡ left - 1 → Playing seed start first t r words' out' end' rest
       play_next rest same =
           let fits : end + length (input_line y) ≤ length out = omega (arith, (play_room seed start first s p words out end left now more), w.short) in
           let n = next_line seed x now.done (stands now.stand) (omega (arith, now.lines)) in

@@ -7,3 +7,6 @@ returns-in-Ok c = search (rules, start_cases)
 
 pub returns-in-Err : goal.returns-in-Err
 returns-in-Err c = search (rules, start_cases)
+
+-- The edit refused_table_started has an arm more; it puts the two lines of that arm's answer in the place of these two, so
+-- that it is refused for what the arm gives and not for want of an answer.
