@@ -1,8 +1,8 @@
 -- A refused call leaves the record as it was, and so does a refused start (docs/SPECIFICATION.md §5.8). Assumes nothing.
-use Rattle.std.specs.Prelude.{◌≡◌, refl, ℕ, Result, List}
-use Rattle.std.proofs.Common.{ap, ◌∙◌}
+use Rattle.std.specs.Prelude.{◌≡◌, refl, ℕ, true, Result, Ok, Err, is_err, List}
+use Rattle.std.proofs.Common.{sym, ap, ◌∙◌, true≢false}
 use Rattle.bounded.specs.Tests.{both}
-use Rattle.table.specs.Verdict.{opinion_of}
+use Rattle.table.specs.Verdict.{Opinion, opinion_of}
 use Rattle.table.specs.declared.Judgement.{Judgement}
 use Rattle.table.specs.declared.Refusal.{Refusal}
 use Rattle.table.specs.Opinion as opinion
@@ -35,3 +35,10 @@ refused_same s s' c r e f ne =
 pub start_refused_same : (s s' : Session) (l : List ℕ) (r : Result Judgement Refusal) → opinion.Says r (opinion_of l) → s' ≡ start_of s l
     → ((opinion.shown_of r).number ≡ 0 → ⊥) → s' ≡ s
 start_refused_same s s' l r h f ne = f ∙ start_same s l (λ z. ne (h.number ∙ z))
+
+-- ---- the code
+
+-- so a refused start need not write the record
+pub start_kept : (s : Session) (l : List ℕ) (r : Result Judgement Refusal) → opinion.shown_of r ≡ opinion_of l → is_err r ≡ true → start_of s l ≡ s
+start_kept s l (Ok j) h z = absurd (true≢false (sym z))
+start_kept s l (Err e) h z = start_same s l (λ n. opinion.refusal_some e (ap (λ (o : Opinion). o.number) h ∙ n))

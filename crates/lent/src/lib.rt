@@ -1,5 +1,5 @@
 // The calls on a session record that the host lends (docs/SPECIFICATION.md §5.8). Each hands the record to the call by
-// value and writes back the session that it leaves, so that a refused call writes back the same value.
+// value and writes back the session that it leaves, so that a refused call writes back the same value; a refused start writes nothing.
 #![tactic(auto)]
 
 ghost use Rattle.std.specs.Prelude.{◌≡◌, length};
@@ -66,11 +66,14 @@ pub fn finish(s: &mut Session) -> Reply
 }
 
 // In place of whatever the record held, which a refused table leaves as it was. The opinion and the session come one by one: in the
-// record that `start_on` gives, the session is copied once more (docs/PERFORMANCE.md).
+// record that `start_on` gives, the session is copied once more, and a refused start would copy it too (docs/PERFORMANCE.md).
 pub fn start(s: &mut Session, words: &[u32]) -> Result<Judgement, Refusal>
     ensures { (shown_of result ≡ opinion_of words.now) × (s.new ≡ start_of s.old words.now) }
 {
     let opinion = table::opinion(words);
+    if opinion.is_err() {
+        return opinion;
+    }
     *s = start_by(*s, words, opinion);
     opinion
 }
