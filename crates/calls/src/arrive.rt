@@ -109,7 +109,8 @@ impl Prepares for &[u64; 16] {
     }
 }
 
-// `arrive` of a sound session, by its brittle rows, of which only this one's mark is looked at. One pass over the rows, with the
+// `arrive` of a sound session, by its brittle rows, of which only this one's mark is looked at. For callers who can prove that the
+// session is sound, and that inverses which they hand in are its table's. One pass over the rows, with the
 // inverses of its table's periods or with a division for each. The compiler makes a body for each of the two. Callers
 // call this function directly: with one function more between, a call took one copy of the record more. Only q is indexed, so that
 // the record is not copied once more to read it.
